@@ -1,0 +1,92 @@
+ghost use Rattle.std.specs.Prelude.{◌≡◌, [], ◌∷◌, ◌++◌, ◌<◌, length, slice_index, IfOk, OnOk, OnErr};
+
+use crate::memory::OutOfMemory;
+use std::alloc::Global;
+use std::marker::Model;
+
+/// A list of octets.
+#[derive(Debug, Drop)]
+pub struct Text {
+    octets: Vec<u8>,
+}
+
+/// A word of a command line or of a text.
+pub type Word = Text;
+
+impl Model for Text {
+    ghost use Rattle.std.specs.Prelude.{List, ℕ};
+    ghost use Rattle.std.specs.Coded.{coded_list, coded_ℕ};
+
+    ghost Value = { List ℕ };
+
+    ghost coded = { coded_list coded_ℕ };
+
+    ghost view = { λ text. text.octets.items };
+}
+
+impl Text {
+    /// An empty text. It takes no memory.
+    pub fn new(alloc: Global) -> Text
+        ensures { result ≡ [] }
+    {
+        Text {
+            octets: Vec::new(alloc),
+        }
+    }
+
+    /// A copy of `octets`.
+    pub fn from_octets(alloc: Global, octets: &[u8]) -> Result<Text, OutOfMemory>
+        ensures { IfOk result (λ text. text ≡ octets.now) }
+    {
+        Ok(Text {
+            octets: Vec::from_slice(alloc, octets)?,
+        })
+    }
+
+    /// The text of these octets. It takes no memory.
+    pub fn from_vec(octets: Vec<u8>) -> Text
+        ensures { result ≡ octets.items }
+    {
+        Text { octets }
+    }
+
+    /// The number of octets.
+    pub fn len(&self) -> usize
+        ensures { result ≡ length self.now }
+    {
+        self.octets.len()
+    }
+
+    /// The octet at `index`.
+    pub fn at(&self, index: usize) -> u8
+        requires { index < length self.now }
+        ensures { result ≡ slice_index self.now index }
+    {
+        self.octets[index]
+    }
+
+    /// The octets.
+    pub fn octets(&self) -> &[u8]
+        ensures { result.now ≡ self.now }
+    {
+        self.octets.as_slice()
+    }
+
+    /// Appends `octet`. Where memory is refused the text is unchanged.
+    pub fn push(&mut self, octet: u8) -> Result<(), OutOfMemory>
+        ensures ok { OnOk result (self.new ≡ self.old ++ octet ∷ []) }
+        ensures err { OnErr result (self.new ≡ self.old) }
+    {
+        self.octets.push(octet)?;
+        Ok(())
+    }
+
+    /// Appends `octets`. Where memory is refused the text is unchanged.
+    pub fn append(&mut self, octets: &[u8]) -> Result<(), OutOfMemory>
+        ensures ok { OnOk result (self.new ≡ self.old ++ octets.now) }
+        ensures err { OnErr result (self.new ≡ self.old) }
+    {
+        self.octets.extend_from_slice(octets)?;
+        Ok(())
+    }
+}
