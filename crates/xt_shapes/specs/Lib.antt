@@ -1,0 +1,14 @@
+pub mod Lists
+pub mod Shape
+pub mod Vals
+pub mod Kinds
+pub mod Sizes
+pub mod Select
+pub mod Defaults
+pub mod Typing
+pub mod Weight
+pub mod Nodes
+pub mod Keyable
+pub mod Worked
+pub mod NodeRules
+pub mod WorkedRules
