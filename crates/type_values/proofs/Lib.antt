@@ -1,0 +1,6 @@
+pub mod Powers
+pub mod Parts
+pub mod SlotSteps
+pub mod DefaultSteps
+pub mod RisingSteps
+pub mod BaseSteps

@@ -1,0 +1,2 @@
+pub mod BaseTrees
+pub mod Rising

@@ -1,0 +1,21 @@
+//! Values by type (DDS-XTypes 1.3, 7.2): which values a type has, its default, and copies of types and values.
+#![tactic(auto)]
+
+mod bases;
+mod copies;
+mod defaults;
+mod keys;
+mod numbers;
+mod typed;
+mod value_copies;
+
+pub use bases::base_of;
+pub use copies::{copy_name, copy_optional_text, copy_text, copy_type};
+pub use defaults::default_value;
+pub use keys::repeats;
+pub use numbers::{fits_bits, has_literal, is_of_prim, is_past, is_text_within};
+pub use typed::has_type;
+pub use value_copies::copy_value;
+
+#[cfg(test)]
+mod tests;
