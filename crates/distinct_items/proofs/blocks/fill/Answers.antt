@@ -1,0 +1,14 @@
+use Rattle.std.proofs.Common.{rules}
+use Rattle.distinct_items.proofs.Appended.{repeated, joined, moved}
+use Rattle.distinct_items.proofs.blocks.fill.Goals as goal
+
+pub returns-then-holds : goal.returns-then-holds
+returns-then-holds g c =
+    repeated c.loop-turn.block.items (g.N.Numbers.left c.take_first.new.self) c.in-Some.number _ c.loop-turn.invariant.split c.in-Some.ensures c.as_slice.ensures.value c.if-holds.ensures (search rules)
+
+pub loop-turn-preserved : goal.loop-turn-preserved
+loop-turn-preserved g c = record {
+  split = moved c.loop-turn.block.items (g.N.Numbers.left c.take_first.new.self) c.in-Some.number _ c.loop-turn.invariant.split c.in-Some.ensures c.push.ensures.items (search rules);
+  apart = joined _ _ c.loop-turn.invariant.apart c.as_slice.ensures.value c.if-holds.ensures c.push.ensures.items (search rules);
+  len = search rules;
+}

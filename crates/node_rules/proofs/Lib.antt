@@ -1,0 +1,6 @@
+pub mod Scopes
+pub mod Mapped
+pub mod Limits
+pub mod Ranges
+pub mod Labelled
+pub mod Members

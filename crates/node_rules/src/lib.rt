@@ -1,0 +1,17 @@
+//! The rules of valid types at one node of a type. Nothing here takes memory.
+#![tactic(auto)]
+
+mod keys;
+mod kinds;
+mod labels;
+mod literals;
+mod nodes;
+mod numbered;
+mod octets;
+mod weights;
+
+pub use keys::keyable;
+pub use kinds::{is_discriminator, is_map_key};
+pub use nodes::failing_rule;
+pub use octets::{name_fits, scope_fits};
+pub use weights::is_light;

@@ -1,0 +1,4 @@
+pub mod FaultSteps
+pub mod FaultLoops
+pub mod DeepSteps
+pub mod Kept

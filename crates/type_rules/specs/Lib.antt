@@ -1,0 +1,5 @@
+pub mod Places
+pub mod Valid
+pub mod Faults
+pub mod Laws
+pub mod Worked
