@@ -1,0 +1,19 @@
+//! The types and values of DDS-XTypes 1.3 (7.2): declarations, validity, defaults, and copies. The crate gathers what the crates
+//! below it have; their own pages say how each is defined and proved.
+#![tactic(auto)]
+
+pub use type_rules::{TypeFault, check_type};
+pub use type_sizes::weight;
+pub use type_trees::{
+    AliasType, ArrayType, Base, Case, Elem, EnumType, Flag, HashId, Literal, MapType, MaskType,
+    Member, Name, Named, Pair, Path, SeqType, Slot, StructType, UnionType, UnionValue, Value,
+    XType, as_array, as_enum, as_map, as_mask, as_prim, as_seq, as_str, as_struct, as_union,
+    case_at, default_case, has_member, hash_id, is_label, member_at, name_hash, name_number,
+    same_name, select,
+};
+pub use type_values::{
+    base_of, copy_name, copy_optional_text, copy_text, copy_type, copy_value, default_value,
+    has_type,
+};
+pub use xt_lists::{OutOfMemory, Row, Text, Word};
+pub use xt_shapes::{Ext, Order, Prim, Rep, Step, Try};
