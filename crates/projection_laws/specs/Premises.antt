@@ -1,0 +1,17 @@
+-- What the laws ask of the program's types.
+use Rattle.std.specs.Prelude.{◌≡◌, None, ◌⊎◌}
+use Rattle.xt_shapes.specs.declared.leaves.Rep.{Rep}
+use Rattle.type_trees.specs.declared.types.XType.{XType}
+use Rattle.type_trees.specs.View.{tree}
+use Rattle.type_trees.specs.Bridge.{type_shape}
+use Rattle.type_rules.specs.Valid.{type_fault}
+use Rattle.xcdr_model.specs.declared.verdict.Policy.{Policy}
+use Rattle.xcdr_model.specs.Assignable.{Assignable}
+
+-- no rule of valid types fails
+abbrev pub IsValid : XType → Type 0
+IsValid ty = type_fault (tree ty) ≡ None
+
+-- The reader's type is assignable from the writer's under the policy, or equivalent to it.
+abbrev pub IsYes : Policy → Rep → XType → XType → Type 0
+IsYes policy rep reader writer = (type_shape reader ≡ type_shape writer) ⊎ Assignable policy rep (type_shape reader) (type_shape writer)

@@ -1,0 +1,5 @@
+use Rattle.shape_laws.proofs.Theorems.{the_key_octets_tell}
+use Rattle.shape_laws.proofs.key_octets_tell.Goals as goal
+
+pub returns : goal.returns
+returns c = the_key_octets_tell
