@@ -1,0 +1,9 @@
+pub use Rattle.xt_outside.specs.Outside
+pub use Rattle.xt_outside.specs.Bundles
+pub use Rattle.xt_outside.specs.Links
+pub use Rattle.xt_outside.specs.Memory
+pub use Rattle.xt_outside.specs.MemoryLinks
+pub use Rattle.xt_outside.specs.MemoryDoors
+pub use Rattle.xt_outside.specs.Adapters
+pub mod Fronts
+pub mod Readers

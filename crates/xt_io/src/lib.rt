@@ -1,0 +1,16 @@
+//! The outside, and bundles: records one after another.
+#![tactic(auto)]
+
+mod bundle;
+mod filling;
+mod record;
+#[cfg(test)]
+mod tests;
+
+pub use bundle::{BundleReader, Pending};
+pub use filling::fill;
+pub use xt_outside::{
+    Door, Failed, Head, Item, Kind, Link, MemDoor, MemLink, MemNet, MemSink, MemSource, Net,
+    NetFault, ReadSource, RecordFault, Script, Sink, Source, SureLink, SureSink, SureSource,
+    TcpDoor, TcpLink, TcpNet, Turn, WriteSink, write_whole,
+};

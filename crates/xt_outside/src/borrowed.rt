@@ -1,0 +1,51 @@
+// A borrowed source or sink is one too.
+ghost use Rattle.std.specs.Prelude.{[], ◌∷◌};
+
+use crate::links::Link;
+use crate::octets::{Failed, Sink, Source};
+
+impl<S: Source> Source for &mut S {
+    ghost left = { λ s. S.left s.now };
+
+    ghost faults = { λ s. S.faults s.now };
+
+    ghost name = { λ s. s.ghost_name ∷ [] };
+
+    ghost behind = { λ s. S.behind s.now };
+
+    fn read(&mut self, into: &mut [u8]) -> Result<usize, Failed> {
+        Source::read(&mut **self, into)
+    }
+}
+
+impl<K: Sink> Sink for &mut K {
+    ghost taken = { λ k. K.taken k.now };
+
+    ghost faults = { λ k. K.faults k.now };
+
+    ghost name = { λ k. k.ghost_name ∷ [] };
+
+    fn write(&mut self, from: &[u8]) -> Result<usize, Failed> {
+        Sink::write(&mut **self, from)
+    }
+}
+
+impl<L: Link> Link for &mut L {
+    ghost left = { λ l. L.left l.now };
+
+    ghost got = { λ l. L.got l.now };
+
+    ghost taken = { λ l. L.taken l.now };
+
+    ghost faults = { λ l. L.faults l.now };
+
+    ghost name = { λ l. l.ghost_name ∷ [] };
+
+    fn read(&mut self, into: &mut [u8]) -> Result<usize, Failed> {
+        Link::read(&mut **self, into)
+    }
+
+    fn write(&mut self, from: &[u8]) -> Result<usize, Failed> {
+        Link::write(&mut **self, from)
+    }
+}
