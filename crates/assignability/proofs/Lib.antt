@@ -1,0 +1,6 @@
+pub mod Pairs
+pub mod YesSteps
+pub mod MarkSteps
+pub mod KeySteps
+pub mod Failing
+pub mod FailureSteps
