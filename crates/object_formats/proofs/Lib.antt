@@ -1,0 +1,6 @@
+pub mod Lawful
+pub mod Combined
+pub mod Texts
+pub mod Tables
+pub mod Whole
+pub mod Views

@@ -1,0 +1,13 @@
+//! Reads the text of a TypeObject: the object, or the first fault with its place.
+#![tactic(auto)]
+
+mod bodies;
+mod fields;
+mod identifiers;
+mod lists;
+mod parts;
+mod reader;
+#[cfg(test)]
+mod tests;
+
+pub use bodies::read_object;

@@ -1,0 +1,4 @@
+pub mod Digits
+pub mod Founds
+pub mod Noted
+pub mod Added

@@ -1,0 +1,19 @@
+//! TypeObjects and their identifiers (DDS-XTypes 1.3, 7.3.4): the types that an object refers to, and pools of objects.
+#![tactic(auto)]
+
+mod entry;
+mod gathering;
+mod identifiers;
+mod pool;
+#[cfg(test)]
+mod tests;
+
+pub use gathering::references;
+pub use identifiers::{hash_of, print_id};
+pub use object_formats::{
+    ObjectCase, ObjectFault, ObjectFlag, ObjectLiteral, ObjectMember, ObjectRule, TypeIdentifier,
+    TypeObject, is_complete,
+};
+pub use object_reader::read_object;
+pub use object_writer::write_object;
+pub use pool::{Pool, PoolFault};
