@@ -1,0 +1,13 @@
+mod Faithful
+mod BackLeaves
+mod BackRows
+mod BackMembers
+mod Back
+mod NamesFit
+mod NameTexts
+mod NamesApart
+mod Results
+mod Yields
+mod TypedLeaves
+mod Typed
+mod Reaching

@@ -1,0 +1,9 @@
+pub mod DataViews
+pub mod Built
+pub mod Pairs
+pub mod Parts
+pub mod Utf8
+pub mod Order
+pub mod Sorted
+pub mod FineData
+pub mod TextRead

@@ -1,0 +1,5 @@
+pub mod Names
+pub mod Written
+pub mod Steps
+pub mod Read
+pub mod Order

@@ -1,0 +1,14 @@
+//! The JSON of values of DDS-XTypes, written and read by a type's tree (this profile's own). The premises here are the parts of
+//! validity that each call needs: names that are texts, and a depth of at most 16. `dynamic_data` has the calls for valid types.
+#![tactic(auto)]
+
+mod faults;
+mod leaves;
+mod objects;
+mod read;
+mod write;
+
+pub use faults::{JsonRule, ValueFault};
+pub use leaves::is_named;
+pub use read::read_json;
+pub use write::write_json;
