@@ -1,0 +1,5 @@
+pub mod ListReading
+pub mod Payloads
+pub mod ListSpelling
+pub mod Reread
+pub mod Limits

@@ -1,0 +1,28 @@
+use Rattle.std.proofs.Common.{◌≡◌, List, [], ℕ, Err, subst, arith}
+use Rattle.std.proofs.lemmas.Result.{err_from_is_err_and}
+use Rattle.lookup_messages.specs.Fields.{Reads, message_at, got}
+use Rattle.lookup_messages.proofs.Limits.{message_limits}
+use Rattle.lookup_messages.proofs.Payloads.{payload-stopped, payload-longer, payload-whole}
+use Rattle.lookup_messages.proofs.fields.read_payload.Goals as goal
+
+pub returns-in_err-message-clause-read : goal.returns-in_err-message-clause-read
+returns-in_err-message-clause-read c =
+    let p = err_from_is_err_and c.from_residual.result c.from_residual.ensures.1 in
+    let read = subst (λ (o : List ℕ). Reads (message_at o) (Err c.in_err-message.field-0.0) c.message.new.self.rest.now) c.new-fields.ensures c.in_err-message.ensures in
+    rw (p.1, p.2) (payload-stopped _ c.message.new.self.rest.now _ c.in_err-message.field-0.0 read)
+
+pub returns-then-fields-gt0-clause-read : goal.returns-then-fields-gt0-clause-read
+returns-then-fields-gt0-clause-read c =
+    let read = subst (λ (o : List ℕ). message_at o ≡ got c.in_ok-message.message c.message.new.self.rest.now) c.new-fields.ensures c.in_ok-message.ensures in
+    rw c.bad.ensures (payload-longer _ _ _ read c.if-fields-gt0.true)
+
+pub returns-clause-read : goal.returns-clause-read
+returns-clause-read c =
+    let read = subst (λ (o : List ℕ). message_at o ≡ got c.in_ok-message.message c.message.new.self.rest.now) c.new-fields.ensures c.in_ok-message.ensures in
+    payload-whole _ _ _ read (omega (arith, c.if-fields-gt0.false))
+
+pub returns-clause-limits : goal.returns-clause-limits
+returns-clause-limits c = (message_limits c.args.octets.now [] c.in_ok-message.message (returns-clause-read c)).0
+
+pub returns-clause-long : goal.returns-clause-long
+returns-clause-long c = (message_limits c.args.octets.now [] c.in_ok-message.message (returns-clause-read c)).1

@@ -1,0 +1,12 @@
+//! The messages of TypeLookup, the operations for asking a peer for types (DDS-XTypes 1.3, 7.6.3.3), and their payloads. The layout
+//! of a payload, the numbers of the operations and `putTypes` are this profile's own.
+#![tactic(auto)]
+
+mod fields;
+mod items;
+mod messages;
+mod spelling;
+
+pub use fields::{GET_TYPE_DEPENDENCIES, GET_TYPES, PUT_TYPES, read_payload};
+pub use messages::{Fetched, Message, Needed, Operation, PayloadFault};
+pub use spelling::spell;

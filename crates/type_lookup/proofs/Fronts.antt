@@ -1,0 +1,58 @@
+-- From the octets that were read to the frame at their front.
+use Rattle.std.proofs.Common.{◌≡◌, ◌≢◌, ℕ, ◌≤◌, ◌<◌, List, [], ◌∷◌, ◌++◌, sym, ap, ◌∙◌, length, take, drop, append-nil, length-append, arith}
+use Rattle.std.proofs.lemmas.List.{take_at, drop_at}
+use Rattle.std.proofs.lemmas.Grind.{common_steps}
+use Rattle.std.specs.Int.{w32, from_be_bytes}
+use Rattle.type_lookup.specs.declared.faults.FrameFault.TheVariants.{Truncated, TooLong, BadMessage}
+use Rattle.lookup_messages.specs.Fields.{payload}
+use Rattle.type_lookup.specs.Frames.{broken, filled, sized, lengthy, front}
+
+pub front-cut : (octets : List ℕ) → 0 < length octets → length octets < 4 → front octets ≡ broken Truncated
+unfolding front
+front-cut [] lt le = absurd (omega arith)
+front-cut (octet ∷ octets) lt le = grind (arith, common_steps)
+
+lengthy-head : (head tail : List ℕ) → length head ≡ 4 → lengthy (head ++ tail) ≡ sized (from_be_bytes w32 head) tail
+lengthy-head head tail four =
+    let long : 4 ≤ length (head ++ tail) = omega (arith, length-append head tail) in
+    let first : take 4 (head ++ tail) ≡ head = take_at head tail 4 four in
+    let rest : drop 4 (head ++ tail) ≡ tail = drop_at head tail 4 four in
+    let full : lengthy (head ++ tail) ≡ sized (from_be_bytes w32 (take 4 (head ++ tail))) (drop 4 (head ++ tail)) = grind (arith, common_steps, long) in
+    full ∙ ap (λ h. sized (from_be_bytes w32 h) (drop 4 (head ++ tail))) first ∙ ap (sized (from_be_bytes w32 head)) rest
+
+pub front-head : (head tail : List ℕ) → length head ≡ 4 → front (head ++ tail) ≡ sized (from_be_bytes w32 head) tail
+unfolding front
+front-head [] tail four = absurd (omega arith)
+front-head (h ∷ hs) tail four = lengthy-head (h ∷ hs) tail four
+
+front-alone : (head : List ℕ) → length head ≡ 4 → front head ≡ sized (from_be_bytes w32 head) []
+front-alone head four = ap front (sym (append-nil head)) ∙ front-head head [] four
+
+pub front-zero : (head : List ℕ) (n : ℕ) → length head ≡ 4 → n ≡ from_be_bytes w32 head → n ≡ 0 → front head ≡ broken (BadMessage 0)
+front-zero head n four e none = front-alone head four ∙ ap (λ k. sized k []) (sym e ∙ none)
+
+sized-long : (n : ℕ) (tail : List ℕ) → 262144 < n → sized n tail ≡ broken (TooLong n)
+sized-long n tail lt = grind (arith, common_steps)
+
+pub front-long : (head : List ℕ) (n : ℕ) → length head ≡ 4 → n ≡ from_be_bytes w32 head → 262144 < n → front head ≡ broken (TooLong n)
+front-long head n four e lt = front-alone head four ∙ ap (λ k. sized k []) (sym e) ∙ sized-long n [] lt
+
+sized-short : (n : ℕ) (tail : List ℕ) → n ≢ 0 → n ≤ 262144 → length tail < n → sized n tail ≡ broken Truncated
+sized-short n tail some le lt = grind (arith, common_steps)
+
+pub front-short : (head tail : List ℕ) (n : ℕ) → length head ≡ 4 → n ≡ from_be_bytes w32 head → n ≢ 0 → n ≤ 262144 → length tail < n → front (head ++ tail) ≡ broken Truncated
+front-short head tail n four e some le lt = front-head head tail four ∙ ap (λ k. sized k tail) (sym e) ∙ sized-short n tail some le lt
+
+sized-filled : (n : ℕ) (tail : List ℕ) → n ≢ 0 → n ≤ 262144 → length tail ≡ n → sized n tail ≡ filled n (payload (take n tail)) (drop n tail)
+sized-filled n tail some le e = grind (arith, common_steps)
+
+take-whole : (n : ℕ) (tail : List ℕ) → length tail ≡ n → take n tail ≡ tail
+take-whole n tail e = grind (arith, common_steps)
+
+drop-whole : (n : ℕ) (tail : List ℕ) → length tail ≡ n → drop n tail ≡ []
+drop-whole n tail e = grind (arith, common_steps)
+
+pub front-filled : (head tail : List ℕ) (n : ℕ) → length head ≡ 4 → n ≡ from_be_bytes w32 head → n ≢ 0 → n ≤ 262144 → length tail ≡ n → front (head ++ tail) ≡ filled n (payload tail) []
+front-filled head tail n four e some le full =
+    front-head head tail four ∙ ap (λ k. sized k tail) (sym e) ∙ sized-filled n tail some le full
+    ∙ ap (λ t. filled n (payload t) (drop n tail)) (take-whole n tail full) ∙ ap (filled n (payload tail)) (drop-whole n tail full)

@@ -1,0 +1,5 @@
+pub mod Taking
+pub mod Fronts
+pub mod Following
+pub mod Streams
+pub mod Reframed

@@ -1,0 +1,3 @@
+pub mod Frames
+pub mod Causes
+pub mod Worked
