@@ -1,0 +1,41 @@
+//! Types, samples and JSON values of DDS-XTypes on the command line: a bundle on standard input, lines or records on standard
+//! output.
+#![tactic(auto)]
+
+use std::alloc::Global;
+use std::env;
+use std::process::ExitCode;
+use std::rt::Env;
+use xt_io::{ReadSource, TcpNet, WriteSink};
+use xt_lists::{OutOfMemory, Row, Word};
+use xt_tool::{Status, xt};
+
+// The words behind the program's name. Arguments that are no UTF-8 are no words.
+fn words_of(rt: &(impl Env + AllocGlobal)) -> Result<Row<Word>, OutOfMemory> {
+    let alloc = rt.alloc();
+    let mut words = Row::new(alloc);
+    if let Ok(given) = env::args(rt) {
+        for word in given.skip(1) {
+            words.push(Word::from_octets(alloc, word.as_bytes())?)?;
+        }
+    }
+    Ok(words)
+}
+
+fn main(rt: HostRuntime) -> ExitCode {
+    let Ok(words) = words_of(&rt) else {
+        return ExitCode::from(Status::OutOfMemory as u8);
+    };
+    let mut input = ReadSource::new(rt.stdin());
+    let mut output = WriteSink::new(rt.stdout());
+    let mut net = TcpNet::new(&rt);
+    let status = xt(
+        &rt,
+        rt.alloc(),
+        words.as_slice(),
+        &mut input,
+        &mut output,
+        &mut net,
+    );
+    ExitCode::from(status as u8)
+}

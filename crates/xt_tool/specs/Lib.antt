@@ -1,0 +1,5 @@
+pub mod Words
+pub mod Idl
+pub mod Samples
+pub mod Output
+pub mod Runs
