@@ -1,0 +1,5 @@
+pub mod Probes
+pub mod Cells
+pub mod Finds
+pub mod Theorem
+pub mod Worked

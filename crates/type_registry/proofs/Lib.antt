@@ -1,0 +1,4 @@
+pub mod Keyed
+pub mod Trails
+pub mod Consistency
+pub mod Passing
