@@ -1,0 +1,12 @@
+-- A union's case, settled.
+use Rattle.std.specs.Prelude.{Bool, false}
+use Rattle.std.specs.Option.{option_map}
+use Rattle.type_trees.specs.View.{val}
+use Rattle.xcdr_model.specs.Projection.{Body, no_body, one_sided, settled_body}
+use Rattle.settled_parts.specs.declared.unions.SettledCase.{SettledCase}
+use Rattle.settled_parts.specs.declared.unions.SettledCase.TheVariants.{NoCase, OneSided, Settled}
+
+abbrev pub case_of : SettledCase → Body × Bool
+case_of NoCase = (no_body, false)
+case_of OneSided = (one_sided, false)
+case_of (Settled v u) = (settled_body (option_map val v), u)

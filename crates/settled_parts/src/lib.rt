@@ -1,0 +1,20 @@
+//! What becomes of parts that were built: settling by the setting of their place (TryConstruct, DDS-XTypes 1.3, 7.2.2.7), and the
+//! wholes that settled parts make, gathered as the parts come.
+#![tactic(auto)]
+
+mod entries;
+mod items;
+mod keys;
+mod leaves;
+mod members;
+mod part;
+mod settling;
+mod unions;
+
+pub use entries::Entries;
+pub use items::Items;
+pub use leaves::{enum_part, text_part};
+pub use members::{MemberSlots, Slots, slot_from};
+pub use part::{Made, Part, Settled, outcome, settle_part};
+pub use settling::{Built, Outcome, settle};
+pub use unions::{SettledCase, fits_disc, settle_case, whole_union};

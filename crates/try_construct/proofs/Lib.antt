@@ -1,0 +1,3 @@
+pub mod FoundSteps
+pub mod SoundSteps
+pub mod WholeSteps

@@ -1,0 +1,4 @@
+pub mod Present
+pub mod Found
+pub mod Steps
+pub mod Typed
