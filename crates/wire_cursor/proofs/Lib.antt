@@ -1,0 +1,4 @@
+pub mod Digits
+pub mod Units
+pub mod Ahead
+pub mod Regions

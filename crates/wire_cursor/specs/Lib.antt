@@ -1,0 +1,7 @@
+pub mod Standing
+pub mod Cuts
+pub mod Decoding
+pub mod Slices
+pub mod Steps
+pub mod Placing
+pub mod Frames
