@@ -1,0 +1,11 @@
+pub mod Gathering
+pub mod InOrder
+pub mod Pieces
+pub mod Readings
+pub mod Indexed
+pub mod PartSteps
+pub mod DecodeSteps
+pub mod CaseSteps
+pub mod PieceSteps
+pub mod KindSteps
+pub mod LeafSteps

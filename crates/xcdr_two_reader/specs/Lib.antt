@@ -1,0 +1,4 @@
+pub mod Parts
+pub mod Members
+pub mod Insides
+pub mod Bodies

@@ -1,0 +1,3 @@
+pub mod ByIndex
+pub mod HeaderSteps
+pub mod StepSteps

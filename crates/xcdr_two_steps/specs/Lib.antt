@@ -1,0 +1,4 @@
+pub mod Bounds
+pub mod Headers
+pub mod Indices
+pub mod Cases
