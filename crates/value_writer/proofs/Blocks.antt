@@ -1,0 +1,19 @@
+-- A block that numbers are added to.
+use Rattle.std.proofs.Common.{◌≡◌, refl, sym, ap, ◌∙◌, ℕ, ◌+◌, ◌-◌, ◌≤◌, ◌<◌, List, [], ◌++◌, length, take, drop, arith, length-append, min}
+use Rattle.std.proofs.Math.Seq.{take-append-add}
+use Rattle.std.proofs.lemmas.List.{take-append-drop, take-append-le, length-take-le}
+use Rattle.std.proofs.lemmas.Slice.{take-put_mid}
+use borrow.Rule.Slice.PartMut.{put_mid}
+
+pub number_added : (count size k : ℕ) (xs ys : List ℕ) → size ≤ 16 → count ≤ length xs → length ys ≡ 16 → take (count + size) (put_mid count k xs ys) ≡ take count xs ++ take size ys
+number_added count size k xs ys small within long =
+    let part = put_mid count k xs ys in
+    let all = take (count + 16) part in
+    let front : all ≡ take count xs ++ ys = take-put_mid count k xs ys (count + 16) (omega (arith, long)) within in
+    let len : length (take count xs) ≡ count = length-take-le count xs within in
+    let fits : count + size ≤ length all = omega (arith, ap length front, length-append (take count xs) ys, len, long) in
+    ap (λ (l : List ℕ). take (count + size) l) (sym (take-append-drop (count + 16) part))
+    ∙ take-append-le (count + size) all (drop (count + 16) part) fits
+    ∙ ap (λ (l : List ℕ). take (count + size) l) front
+    ∙ ap (λ (n : ℕ). take (n + size) (take count xs ++ ys)) (sym len)
+    ∙ take-append-add (take count xs) ys size

@@ -1,0 +1,5 @@
+pub mod Slots
+pub mod Scalars
+pub mod Places
+pub mod Runs
+pub mod Flushing

@@ -1,0 +1,78 @@
+//! A block of octets on the stack.
+ghost use Rattle.std.specs.Prelude.{◌≡◌, ◌≤◌, ◌++◌, [], length, nat_lt, take};
+ghost use Rattle.value_writer.specs.Flushing.{Flushes};
+
+use std::marker::Model;
+use wire_writer::Writer;
+use xt_outside::{Failed, Sink};
+
+const SIZE: usize = 512;
+
+#[derive(Drop)]
+pub(crate) struct Block {
+    octets: [u8; SIZE],
+    count: usize,
+    ghost in_range: { count ≤ 512 },
+}
+
+impl Model for Block {
+    ghost use Rattle.std.specs.Prelude.{List, ℕ, take};
+    ghost use Rattle.std.specs.Coded.{coded_list, coded_ℕ};
+
+    ghost Value = { List ℕ };
+
+    ghost coded = { coded_list coded_ℕ };
+
+    ghost view = { λ block. take block.count block.octets };
+}
+
+impl Block {
+    pub(crate) fn new() -> Block
+        ensures { result ≡ [] }
+    {
+        Block {
+            octets: [0; SIZE],
+            count: 0,
+        }
+    }
+
+    pub(crate) fn octets(&self) -> &[u8]
+        ensures { result.now ≡ self.now }
+    {
+        &self.octets[..self.count]
+    }
+
+    /// Appends the first `size` of these octets.
+    pub(crate) fn add(&mut self, size: u32, octets: &[u8; 16])
+        requires size { size ≤ 16 }
+        requires room { length self.old ≤ 496 }
+        ensures { self.new ≡ self.old ++ take size octets.now }
+    {
+        self.octets[self.count..self.count + 16].copy_from_slice(octets);
+        self.count += size as usize;
+    }
+
+    fn has_room(&self) -> bool
+        ensures { result ≡ nat_lt (length self.now) 497 }
+    {
+        self.count < 497
+    }
+
+    fn clear(&mut self)
+        ensures { self.new ≡ [] }
+    {
+        self.count = 0;
+    }
+}
+
+/// Writes the block and clears it, where it might not have room for another number.
+pub(crate) fn make_room<K: Sink>(block: &mut Block, out: &mut Writer<K>) -> Result<(), Failed>
+    ensures { Flushes block.old block.new out.old out.new result }
+{
+    if block.has_room() {
+        return Ok(());
+    }
+    out.put(block.octets())?;
+    block.clear();
+    Ok(())
+}

@@ -1,0 +1,43 @@
+//! Lists of numbers, gathered into blocks so that a sink is called once a block.
+ghost use Rattle.std.specs.Prelude.{◌≡◌, ◌≤◌, ◌++◌, [], length, map, nat_lt, take};
+ghost use Rattle.type_trees.specs.View.{val};
+ghost use Rattle.wire_writer.specs.Writing.{Puts, IsUnit};
+ghost use Rattle.value_writer.specs.Runs.{run_fixed, digits_of};
+
+use crate::block::{Block, make_room};
+use crate::values::number_in;
+use type_trees::Value;
+use wire_writer::{Writer, octets_of, raw};
+use xt_outside::{Failed, Sink};
+
+fn put_digits<K: Sink>(size: u32, values: &[Value], out: &mut Writer<K>) -> Result<(), Failed>
+    requires { IsUnit size }
+    ensures { Puts (λ p. digits_of out.old.order size (map val values.now)) out.old out.new result }
+{
+    let order = out.order();
+    let mut block = Block::new();
+    for value in values {
+        make_room(&mut block, out)?;
+        block.add(size, &octets_of(order, size, raw(size, number_in(value))));
+    }
+    out.put(block.octets())
+}
+
+/// Writes the numbers of these values, each of `size` octets, aligned to their size and at most to `most`; each of these is
+/// 1, 2, 4 or 8.
+pub fn put_run<K: Sink>(
+    most: u32,
+    size: u32,
+    values: &[Value],
+    out: &mut Writer<K>,
+) -> Result<(), Failed>
+    requires most { IsUnit most }
+    requires size { IsUnit size }
+    ensures { Puts (run_fixed most out.old.order size (map val values.now)) out.old out.new result }
+{
+    if values.is_empty() {
+        return Ok(());
+    }
+    out.align(size.min(most))?;
+    put_digits(size, values, out)
+}

@@ -1,0 +1,10 @@
+//! What samples are written with: octets and numbers that go to a sink, aligned from an origin.
+#![tactic(auto)]
+
+mod digits;
+#[cfg(test)]
+mod tests;
+mod writer;
+
+pub use digits::{octets_of, raw};
+pub use writer::Writer;

@@ -1,0 +1,6 @@
+pub mod SizeSteps
+pub mod Steady
+pub mod Counts
+pub mod Chains
+pub mod SampleSteps
+pub mod Joining
