@@ -1,0 +1,5 @@
+pub mod Ended
+pub mod Short
+pub mod Eached
+pub mod Walked
+pub mod Resolved
