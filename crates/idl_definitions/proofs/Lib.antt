@@ -1,0 +1,2 @@
+pub mod DefinitionLoops
+pub mod MakeSteps

@@ -1,0 +1,26 @@
+-- One or more parts of a definition. A part is read by a step from what was gathered before it. The number bounds the turns: each part has an
+-- octet at least.
+use Rattle.std.specs.Prelude.{ℕ, zero, suc, if◌then◌else◌, Option, Some, None, codes}
+use Rattle.idl_input.specs.Input.{Input, Parser, ◌>>=◌, pure, syntax, eat, turns}
+
+-- with `,` between them
+unfoldable pub comma_from : {A : Type 0} → (A → Parser A) → ℕ → A → Parser A
+comma_from step zero a = pure a
+comma_from step (suc n) a = do
+  b ← step a
+  more ← eat (codes ",")
+  if more then comma_from step n b else pure b
+
+abbrev pub with_commas : {A : Type 0} → (A → Parser A) → A → Parser A
+with_commas step a = λ i. comma_from step (turns i) a i
+
+-- up to `}`
+unfoldable pub braced_from : {A : Type 0} → (A → Parser A) → ℕ → A → Parser A
+braced_from step zero a = syntax
+braced_from step (suc n) a = do
+  b ← step a
+  over ← eat (codes "}")
+  if over then pure b else braced_from step n b
+
+abbrev pub to_brace : {A : Type 0} → (A → Parser A) → A → Parser A
+to_brace step a = λ i. braced_from step (turns i) a i

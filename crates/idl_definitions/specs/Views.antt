@@ -1,0 +1,35 @@
+-- What the program's values of a definition stand for.
+use Rattle.std.specs.Prelude.{map}
+use Rattle.type_trees.specs.View.{tree, member_tree, case_tree}
+use Rattle.idl_definitions.specs.declared.made.Made as made_code
+use Rattle.idl_definitions.specs.declared.made.NewName as name_code
+use Rattle.idl_definitions.specs.declared.members.Listed as listed_code
+use Rattle.idl_definitions.specs.declared.structures.Heritage as heritage_code
+use Rattle.idl_definitions.specs.declared.listed.ListedLiterals as literals_code
+use Rattle.idl_definitions.specs.declared.numbered.ListedFlags as flags_code
+use Rattle.idl_definitions.specs.declared.unions.Gathered as gathered_code
+use Rattle.idl_definitions.specs.Members.{Listed}
+use Rattle.idl_definitions.specs.Structures.{Made, NewName, Heritage}
+use Rattle.idl_definitions.specs.Numbered.{ListedLiterals, ListedFlags}
+use Rattle.idl_definitions.specs.Unions.{Gathered}
+
+abbrev pub made : made_code.Made → Made
+made m = record { at = m.at; name = m.name.now; full = m.full; tree = tree m.ty; fits = m.fits }
+
+abbrev pub new_name : name_code.NewName → NewName
+new_name n = record { at = n.at; name = n.name.now; full = n.full }
+
+abbrev pub listed : listed_code.Listed → Listed
+listed l = record { members = map member_tree l.members; names = l.names; following = l.following }
+
+abbrev pub heritage : heritage_code.Heritage → Heritage
+heritage h = record { fits = h.fits; bases = h.bases; members = map member_tree h.members }
+
+abbrev pub literals : literals_code.ListedLiterals → ListedLiterals
+literals l = record { literals = l.literals; names = l.names; following = l.following }
+
+abbrev pub flags : flags_code.ListedFlags → ListedFlags
+flags l = record { flags = l.flags; names = l.names; following = l.following }
+
+abbrev pub gathered : gathered_code.Gathered → Gathered
+gathered g = record { cases = map case_tree g.cases; names = g.names; following = g.following }

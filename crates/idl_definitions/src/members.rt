@@ -1,0 +1,223 @@
+ghost use Rattle.std.specs.Prelude.{◌≡◌, ◌<◌, ◌^◌, ◌||◌, [], false, IfOk};
+ghost use Rattle.type_trees.specs.View.{tree, member_tree};
+ghost use Rattle.idl_names.specs.Sets.{has as taken};
+ghost use Rattle.idl_input.specs.Input.{Reads};
+ghost use Rattle.idl_types.specs.Views.{state};
+ghost use Rattle.idl_definitions.specs.Lists.{with_commas};
+ghost use Rattle.idl_definitions.specs.Members as spec;
+ghost use Rattle.idl_definitions.specs.Views as view;
+
+use idl_input::{IdlFault, Tokens};
+use idl_names::NameSet;
+use idl_types::{Reader, a_type, boxed};
+use std::alloc::Global;
+use type_trees::{ArrayType, Elem, Member, Name, XType, hash_id};
+use type_values::copy_type;
+use xt_annotations::{Placed, Setting, Site, apply_notes, has};
+use xt_lists::{OutOfMemory, Row, Text};
+use xt_shapes::Try;
+
+#[tactic(auto, using(crate::proofs::DefinitionLoops::dims_go, crate::proofs::DefinitionLoops::dims_end), unfolding(crate::specs::Members::dims))]
+fn dims(tokens: &mut Tokens<'_>, alloc: Global) -> Result<Row<u32>, IdlFault>
+    ensures { Reads (λ x. x) (spec.dims tokens.old) result tokens.new }
+{
+    let mut dims = Row::new(alloc);
+    for _turn in 0..tokens.left() {
+        if !tokens.eat(b"[") {
+            return Ok(dims);
+        }
+        let dim = tokens.bound()?;
+        tokens.want(b"]")?;
+        dims.push(dim)?;
+    }
+    Ok(dims)
+}
+
+#[tactic(auto, using(type_trees::proofs::Views::tree_rules, crate::proofs::MakeSteps::some_dims, crate::proofs::MakeSteps::no_dims))]
+fn with_dims(alloc: Global, ty: XType, dims: Row<u32>) -> Result<XType, OutOfMemory>
+    ensures { IfOk result (λ t. tree t ≡ spec.with_dims (tree ty) dims) }
+{
+    if dims.len() == 0 {
+        return Ok(ty);
+    }
+    let elem = Elem {
+        ty,
+        tc: Try::Discard,
+    };
+    Ok(XType::Array(boxed(alloc, ArrayType { dims, elem })?))
+}
+
+fn gives_id(notes: &[Placed]) -> bool
+    ensures { result ≡ spec.gives_id notes.now }
+{
+    has(Setting::Id, notes) || has(Setting::HashId, notes)
+}
+
+#[tactic(auto, unfolding(crate::specs::Members::id_for))]
+fn id_for(
+    tokens: &Tokens<'_>,
+    at: u32,
+    notes: &[Placed],
+    hashed: bool,
+    following: u64,
+    name: &[u8],
+) -> Result<u32, IdlFault>
+    ensures { Reads (λ x. x) (spec.id_for at notes.now hashed following name.now tokens.now) result tokens.now }
+{
+    if gives_id(notes) {
+        return Ok(0);
+    }
+    if hashed {
+        return Ok(hash_id(name));
+    }
+    if following < 1 << 32 {
+        Ok(following as u32)
+    } else {
+        Err(IdlFault::Annotation { at, rule: 7 })
+    }
+}
+
+/// A type with the dimensions that come next.
+#[tactic(auto, unfolding(crate::specs::Members::dimensioned))]
+pub fn dimensioned(tokens: &mut Tokens<'_>, alloc: Global, ty: XType) -> Result<XType, IdlFault>
+    ensures { Reads tree (spec.dimensioned (tree ty) tokens.old) result tokens.new }
+{
+    let dims = dims(tokens, alloc)?;
+    Ok(with_dims(alloc, ty, dims)?)
+}
+
+/// A member or case, from after its name.
+#[tactic(auto, using(type_trees::proofs::Views::tree_rules), unfolding(crate::specs::Members::shaped))]
+pub fn shaped(
+    tokens: &mut Tokens<'_>,
+    alloc: Global,
+    at: u32,
+    name: &[u8],
+    notes: &[Placed],
+    hashed: bool,
+    following: u64,
+    ty: XType,
+) -> Result<Member, IdlFault>
+    ensures { Reads member_tree (spec.shaped at name.now notes.now hashed following (tree ty) tokens.old) result tokens.new }
+{
+    let ty = dimensioned(tokens, alloc, ty)?;
+    let id = id_for(tokens, at, notes, hashed, following, name)?;
+    let mut member = Member {
+        id,
+        name: Name::Full(Text::from_octets(alloc, name)?),
+        ty,
+        tc: Try::Discard,
+        optional: false,
+        must_understand: false,
+        key: false,
+    };
+    apply_notes(notes, &mut member);
+    Ok(member)
+}
+
+/// A name that isn't taken, and its place.
+#[tactic(auto, unfolding(crate::specs::Members::new_name))]
+pub(crate) fn new_name<'a>(
+    tokens: &mut Tokens<'a>,
+    names: &NameSet<'a>,
+) -> Result<(u32, &'a [u8]), IdlFault>
+    ensures read { Reads (λ n. (n.0, n.1.now)) (spec.new_name names.now tokens.old) result tokens.new }
+    ensures free { IfOk result (λ n. taken n.1.now names.now ≡ false) }
+{
+    let at = tokens.place();
+    let name = tokens.name()?;
+    if names.has(name) {
+        return Err(IdlFault::Twice { at });
+    }
+    Ok((at, name))
+}
+
+/// Members so far, the own names among them, and the id after the last one's.
+#[derive(Drop)]
+pub(crate) struct Listed<'a> {
+    pub(crate) members: Row<Member>,
+    pub(crate) names: NameSet<'a>,
+    pub(crate) following: u64,
+}
+
+#[tactic(auto, using(type_trees::proofs::Views::tree_rules, std::proofs::lemmas::List::map_push))]
+fn with_member<'a>(
+    listed: Listed<'a>,
+    name: &'a [u8],
+    member: Member,
+) -> Result<Listed<'a>, OutOfMemory>
+    requires { taken name.now listed.names ≡ false }
+    ensures { IfOk result (λ more. view.listed more ≡ spec.with_member (view.listed listed.entry) name.now (member_tree member)) }
+{
+    let Listed {
+        mut members,
+        mut names,
+        following: _,
+    } = listed;
+    let following = u64::from(member.id) + 1;
+    names.add(name)?;
+    members.push(member)?;
+    Ok(Listed {
+        members,
+        names,
+        following,
+    })
+}
+
+/// One more declarator, of a copy of the type.
+#[tactic(auto, unfolding(crate::specs::Members::another))]
+fn another<'a>(
+    tokens: &mut Tokens<'a>,
+    alloc: Global,
+    notes: &[Placed],
+    hashed: bool,
+    ty: &XType,
+    listed: Listed<'a>,
+) -> Result<Listed<'a>, IdlFault>
+    ensures { Reads view.listed (spec.another notes.now hashed (tree ty.now) (view.listed listed.entry) tokens.old) result tokens.new }
+{
+    let (at, name) = new_name(tokens, &listed.names)?;
+    let copy = copy_type(alloc, ty)?;
+    let following = listed.following;
+    let member = shaped(tokens, alloc, at, name, notes, hashed, following, copy)?;
+    Ok(with_member(listed, name, member)?)
+}
+
+#[tactic(auto, using(crate::proofs::DefinitionLoops::comma_go, crate::proofs::DefinitionLoops::comma_end))]
+fn declarators<'a>(
+    tokens: &mut Tokens<'a>,
+    alloc: Global,
+    notes: &[Placed],
+    hashed: bool,
+    ty: &XType,
+    listed: Listed<'a>,
+) -> Result<Listed<'a>, IdlFault>
+    ensures { Reads view.listed (with_commas (spec.another notes.now hashed (tree ty.now)) (view.listed listed.entry) tokens.old) result tokens.new }
+{
+    let mut listed = listed;
+    for _turn in 0..tokens.left() {
+        listed = another(tokens, alloc, notes, hashed, ty, listed)?;
+        if !tokens.eat(b",") {
+            return Ok(listed);
+        }
+    }
+    Ok(listed)
+}
+
+/// Members of one type.
+#[tactic(auto, unfolding(crate::specs::Members::members_of_type))]
+pub(crate) fn members_of_type<'a>(
+    tokens: &mut Tokens<'a>,
+    reader: &Reader<'a>,
+    hashed: bool,
+    listed: Listed<'a>,
+) -> Result<Listed<'a>, IdlFault>
+    ensures { Reads view.listed (spec.members_of_type (state reader.now) hashed (view.listed listed.entry) tokens.old) result tokens.new }
+{
+    let alloc = reader.alloc();
+    let notes = tokens.notes_at(alloc, Site::Member)?;
+    let ty = a_type(tokens, reader)?;
+    let more = declarators(tokens, alloc, notes.as_slice(), hashed, &ty, listed)?;
+    tokens.want(b";")?;
+    Ok(more)
+}

@@ -1,0 +1,375 @@
+ghost use Rattle.std.specs.Prelude.{◌≡◌, [], map, pos, slice_index, false, IfOk};
+ghost use Rattle.type_trees.specs.View.{tree, case_tree, member_tree};
+ghost use Rattle.idl_names.specs.Sets.{has as taken};
+ghost use Rattle.idl_input.specs.Input.{Reads};
+ghost use Rattle.idl_types.specs.Views.{state};
+ghost use Rattle.idl_definitions.specs.Lists.{to_brace};
+ghost use Rattle.idl_definitions.specs.Unions as spec;
+ghost use Rattle.idl_definitions.specs.Views as view;
+
+use crate::made::{Made, defined, new_type};
+use crate::members::{new_name, shaped};
+use crate::settings::{Settings, settings_of};
+use idl_input::{IdlFault, Tokens};
+use idl_names::NameSet;
+use idl_tokens::{TokenKind, same, signed_32};
+use idl_types::{Reader, a_type, boxed, scoped_name};
+use std::alloc::Global;
+use type_trees::{Case, Literal, Member, Name, UnionType, XType};
+use type_values::copy_text;
+use xt_annotations::Site;
+use xt_lists::{OutOfMemory, Row, Text};
+use xt_shapes::Prim;
+
+fn is_named(text: &[u8], name: &Name) -> bool
+    ensures { result ≡ spec.is_named text.now name.now }
+{
+    match name {
+        Name::Full(known) => same(known.octets(), text),
+        Name::Hashed(_) => false,
+    }
+}
+
+/// The value of the literal of this name.
+fn value_named(text: &[u8], literals: &[Literal]) -> Option<i32>
+    ensures { result ≡ spec.value_named text.now literals.now }
+{
+    for literal in literals {
+        if is_named(text, &literal.name) {
+            return Some(literal.value);
+        }
+    }
+    None
+}
+
+#[tactic(auto, using(type_trees::proofs::Views::tree_rules))]
+fn behind(ty: &XType) -> &XType
+    ensures { tree result.now ≡ spec.behind (tree ty.now) }
+{
+    match ty {
+        XType::Alias(kind) => behind(&kind.ty),
+        XType::Prim(_)
+        | XType::Str(_)
+        | XType::Enum(_)
+        | XType::Mask(_)
+        | XType::Seq(_)
+        | XType::Array(_)
+        | XType::Map(_)
+        | XType::Struct(_)
+        | XType::Union(_) => ty,
+    }
+}
+
+#[tactic(auto, unfolding(crate::specs::Unions::truth_label))]
+fn truth_label(tokens: &mut Tokens<'_>) -> Result<i32, IdlFault>
+    ensures { Reads (λ x. x) (spec.truth_label tokens.old) result tokens.new }
+{
+    if tokens.eat(b"TRUE") {
+        return Ok(1);
+    }
+    tokens.want(b"FALSE")?;
+    Ok(0)
+}
+
+fn character_of(spelling: &[u8]) -> i32
+    ensures { result ≡ pos (slice_index spelling.now 1) }
+{
+    if 1 < spelling.len() {
+        i32::from(spelling[1])
+    } else {
+        0
+    }
+}
+
+#[tactic(auto, unfolding(crate::specs::Unions::character_label))]
+fn character_label(tokens: &mut Tokens<'_>) -> Result<i32, IdlFault>
+    ensures { Reads (λ x. x) (spec.character_label tokens.old) result tokens.new }
+{
+    match tokens.kind() {
+        TokenKind::Character => Ok(character_of(tokens.take())),
+        TokenKind::Word
+        | TokenKind::Number
+        | TokenKind::Quoted
+        | TokenKind::Mark
+        | TokenKind::End
+        | TokenKind::Bad => Err(tokens.syntax()),
+    }
+}
+
+#[tactic(auto, unfolding(crate::specs::Unions::number_label))]
+fn number_label(tokens: &mut Tokens<'_>) -> Result<i32, IdlFault>
+    ensures { Reads (λ x. x) (spec.number_label tokens.old) result tokens.new }
+{
+    if !tokens.sees_number() {
+        return Err(tokens.syntax());
+    }
+    match signed_32(tokens.spelling()) {
+        Some(number) => {
+            tokens.take();
+            Ok(number)
+        }
+        None => Err(tokens.syntax()),
+    }
+}
+
+#[tactic(auto, unfolding(crate::specs::Unions::literal_label))]
+fn literal_label(
+    tokens: &mut Tokens<'_>,
+    alloc: Global,
+    literals: &[Literal],
+) -> Result<i32, IdlFault>
+    ensures { Reads (λ x. x) (spec.literal_label literals.now tokens.old) result tokens.new }
+{
+    let at = tokens.place();
+    let name = scoped_name(tokens, alloc)?;
+    match value_named(name.last, literals) {
+        Some(value) => Ok(value),
+        None => Err(IdlFault::Unknown { at }),
+    }
+}
+
+#[tactic(auto, using(type_trees::proofs::Views::tree_rules))]
+fn label_by(tokens: &mut Tokens<'_>, alloc: Global, ty: &XType) -> Result<i32, IdlFault>
+    ensures { Reads (λ x. x) (spec.label_by (tree ty.now) tokens.old) result tokens.new }
+{
+    match ty {
+        XType::Prim(Prim::Boolean) => truth_label(tokens),
+        XType::Prim(Prim::Char8) => character_label(tokens),
+        XType::Enum(kind) => literal_label(tokens, alloc, kind.literals.as_slice()),
+        XType::Prim(
+            Prim::Byte
+            | Prim::Int8
+            | Prim::Uint8
+            | Prim::Int16
+            | Prim::Uint16
+            | Prim::Int32
+            | Prim::Uint32
+            | Prim::Int64
+            | Prim::Uint64
+            | Prim::Float32
+            | Prim::Float64,
+        )
+        | XType::Str(_)
+        | XType::Mask(_)
+        | XType::Seq(_)
+        | XType::Array(_)
+        | XType::Map(_)
+        | XType::Struct(_)
+        | XType::Union(_)
+        | XType::Alias(_) => number_label(tokens),
+    }
+}
+
+#[tactic(auto, unfolding(crate::specs::Unions::label))]
+fn label(tokens: &mut Tokens<'_>, alloc: Global, disc: &XType) -> Result<i32, IdlFault>
+    ensures { Reads (λ x. x) (spec.label (tree disc.now) tokens.old) result tokens.new }
+{
+    label_by(tokens, alloc, behind(disc))
+}
+
+/// Labels, and whether `default` is among them.
+#[derive(Drop)]
+struct LabelList {
+    values: Row<i32>,
+    is_default: bool,
+}
+
+#[tactic(auto, using(crate::proofs::DefinitionLoops::labels_go, crate::proofs::DefinitionLoops::labels_end), unfolding(crate::specs::Unions::labels))]
+fn labels(tokens: &mut Tokens<'_>, alloc: Global, disc: &XType) -> Result<LabelList, IdlFault>
+    ensures { Reads (λ l. (l.values, l.is_default)) (spec.labels (tree disc.now) tokens.old) result tokens.new }
+{
+    if !(tokens.sees(b"case") || tokens.sees(b"default")) {
+        return Err(tokens.syntax());
+    }
+    let mut values = Row::new(alloc);
+    let mut is_default = false;
+    for _turn in 0..tokens.left() {
+        if tokens.eat(b"case") {
+            let value = label(tokens, alloc, disc)?;
+            tokens.want(b":")?;
+            values.push(value)?;
+        } else if tokens.eat(b"default") {
+            tokens.want(b":")?;
+            is_default = true;
+        } else {
+            return Ok(LabelList { values, is_default });
+        }
+    }
+    Ok(LabelList { values, is_default })
+}
+
+#[tactic(auto, using(type_trees::proofs::Views::tree_rules))]
+fn case_of(labels: LabelList, member: Member) -> Case
+    ensures { case_tree result ≡ spec.a_case labels.values labels.is_default (member_tree member) }
+{
+    let Member {
+        id,
+        name,
+        ty,
+        tc,
+        optional: _,
+        must_understand: _,
+        key: _,
+    } = member;
+    Case {
+        id,
+        name,
+        ty,
+        tc,
+        labels: labels.values,
+        is_default: labels.is_default,
+    }
+}
+
+/// Cases so far, their names, and the id after the last one's.
+#[derive(Drop)]
+pub(crate) struct Gathered<'a> {
+    cases: Row<Case>,
+    names: NameSet<'a>,
+    following: u64,
+}
+
+#[tactic(auto, using(type_trees::proofs::Views::tree_rules, std::proofs::lemmas::List::map_push))]
+fn with_case<'a>(
+    gathered: Gathered<'a>,
+    name: &'a [u8],
+    case: Case,
+) -> Result<Gathered<'a>, OutOfMemory>
+    requires { taken name.now gathered.names ≡ false }
+    ensures { IfOk result (λ more. view.gathered more ≡ spec.with_case (view.gathered gathered.entry) name.now (case_tree case)) }
+{
+    let Gathered {
+        mut cases,
+        mut names,
+        following: _,
+    } = gathered;
+    let following = u64::from(case.id) + 1;
+    names.add(name)?;
+    cases.push(case)?;
+    Ok(Gathered {
+        cases,
+        names,
+        following,
+    })
+}
+
+/// One more case.
+#[tactic(auto, unfolding(crate::specs::Unions::case))]
+fn another_case<'a>(
+    tokens: &mut Tokens<'a>,
+    reader: &Reader<'a>,
+    hashed: bool,
+    disc: &XType,
+    gathered: Gathered<'a>,
+) -> Result<Gathered<'a>, IdlFault>
+    ensures { Reads view.gathered (spec.case (state reader.now) hashed (tree disc.now) (view.gathered gathered.entry) tokens.old) result tokens.new }
+{
+    let alloc = reader.alloc();
+    let labels = labels(tokens, alloc, disc)?;
+    let notes = tokens.notes_at(alloc, Site::Case)?;
+    let ty = a_type(tokens, reader)?;
+    let (at, name) = new_name(tokens, &gathered.names)?;
+    let following = gathered.following;
+    let member = shaped(
+        tokens,
+        alloc,
+        at,
+        name,
+        notes.as_slice(),
+        hashed,
+        following,
+        ty,
+    )?;
+    tokens.want(b";")?;
+    Ok(with_case(gathered, name, case_of(labels, member))?)
+}
+
+#[tactic(auto, using(crate::proofs::DefinitionLoops::braced_go, crate::proofs::DefinitionLoops::braced_end))]
+fn cases<'a>(
+    tokens: &mut Tokens<'a>,
+    reader: &Reader<'a>,
+    hashed: bool,
+    disc: &XType,
+    gathered: Gathered<'a>,
+) -> Result<Gathered<'a>, IdlFault>
+    ensures { Reads view.gathered (to_brace (spec.case (state reader.now) hashed (tree disc.now)) (view.gathered gathered.entry) tokens.old) result tokens.new }
+{
+    let mut gathered = gathered;
+    for _turn in 0..tokens.left() {
+        gathered = another_case(tokens, reader, hashed, disc, gathered)?;
+        if tokens.eat(b"}") {
+            return Ok(gathered);
+        }
+    }
+    Err(tokens.syntax())
+}
+
+fn no_cases<'a>(alloc: Global) -> Gathered<'a>
+    ensures { view.gathered result ≡ spec.no_cases_yet }
+{
+    Gathered {
+        cases: Row::new(alloc),
+        names: NameSet::new(alloc),
+        following: 0,
+    }
+}
+
+/// The discriminator's type, and whether it is a key.
+#[tactic(auto, unfolding(crate::specs::Unions::discriminator))]
+fn discriminator<'a>(
+    tokens: &mut Tokens<'a>,
+    reader: &Reader<'a>,
+) -> Result<(XType, bool), IdlFault>
+    ensures { Reads (λ d. (tree d.0, d.1)) (spec.discriminator (state reader.now) tokens.old) result tokens.new }
+{
+    tokens.want(b"switch")?;
+    tokens.want(b"(")?;
+    let notes = tokens.notes_at(reader.alloc(), Site::Discriminator)?;
+    let ty = a_type(tokens, reader)?;
+    tokens.want(b")")?;
+    Ok((ty, settings_of(notes.as_slice()).key))
+}
+
+#[tactic(auto, using(type_trees::proofs::Views::tree_rules))]
+fn union_of(
+    alloc: Global,
+    full: &Text,
+    set: Settings,
+    disc: XType,
+    disc_key: bool,
+    cases: Row<Case>,
+) -> Result<XType, OutOfMemory>
+    ensures { IfOk result (λ t. tree t ≡ spec.union_of full.now set (tree disc) disc_key (map case_tree cases)) }
+{
+    let name = Some(copy_text(alloc, full)?);
+    let kind = UnionType {
+        name,
+        ext: set.ext,
+        nested: set.nested,
+        hashed_ids: set.hashed,
+        disc,
+        disc_key,
+        cases,
+    };
+    Ok(XType::Union(boxed(alloc, kind)?))
+}
+
+/// A union, from its keyword on.
+#[tactic(auto, unfolding(crate::specs::Unions::union_def))]
+pub fn union_def<'a>(
+    tokens: &mut Tokens<'a>,
+    reader: &Reader<'a>,
+    set: Settings,
+) -> Result<Made<'a>, IdlFault>
+    ensures { Reads view.made (spec.union_def (state reader.now) set tokens.old) result tokens.new }
+{
+    let alloc = reader.alloc();
+    tokens.take();
+    let name = new_type(tokens, reader)?;
+    let (disc, disc_key) = discriminator(tokens, reader)?;
+    tokens.want(b"{")?;
+    let gathered = cases(tokens, reader, set.hashed, &disc, no_cases(alloc))?;
+    tokens.want(b";")?;
+    let ty = union_of(alloc, &name.full, set, disc, disc_key, gathered.cases)?;
+    Ok(defined(name, ty, true))
+}

@@ -1,0 +1,89 @@
+ghost use Rattle.std.specs.Prelude.{◌≡◌, map, length};
+ghost use Rattle.idl_input.specs.Words as spec;
+
+use idl_tokens::same;
+use xt_shapes::Prim;
+
+/// A keyword. `Outside` is one that isn't in the profile.
+#[derive(Clone, Copy, Debug)]
+pub enum Keyword {
+    Simple(Prim),
+    Long,
+    Unsigned,
+    Str,
+    Sequence,
+    Map,
+    Module,
+    Struct,
+    Union,
+    Enum,
+    Bitmask,
+    Typedef,
+    Switch,
+    Case,
+    Default,
+    True,
+    False,
+    Outside,
+}
+
+pub const KEYWORDS: [(&'static [u8], Keyword); 38] = [
+    (b"module", Keyword::Module),
+    (b"struct", Keyword::Struct),
+    (b"union", Keyword::Union),
+    (b"switch", Keyword::Switch),
+    (b"case", Keyword::Case),
+    (b"default", Keyword::Default),
+    (b"TRUE", Keyword::True),
+    (b"FALSE", Keyword::False),
+    (b"enum", Keyword::Enum),
+    (b"bitmask", Keyword::Bitmask),
+    (b"typedef", Keyword::Typedef),
+    (b"string", Keyword::Str),
+    (b"sequence", Keyword::Sequence),
+    (b"map", Keyword::Map),
+    (b"boolean", Keyword::Simple(Prim::Boolean)),
+    (b"octet", Keyword::Simple(Prim::Byte)),
+    (b"char", Keyword::Simple(Prim::Char8)),
+    (b"int8", Keyword::Simple(Prim::Int8)),
+    (b"uint8", Keyword::Simple(Prim::Uint8)),
+    (b"short", Keyword::Simple(Prim::Int16)),
+    (b"int16", Keyword::Simple(Prim::Int16)),
+    (b"unsigned", Keyword::Unsigned),
+    (b"uint16", Keyword::Simple(Prim::Uint16)),
+    (b"long", Keyword::Long),
+    (b"int32", Keyword::Simple(Prim::Int32)),
+    (b"uint32", Keyword::Simple(Prim::Uint32)),
+    (b"int64", Keyword::Simple(Prim::Int64)),
+    (b"uint64", Keyword::Simple(Prim::Uint64)),
+    (b"float", Keyword::Simple(Prim::Float32)),
+    (b"double", Keyword::Simple(Prim::Float64)),
+    (b"wchar", Keyword::Outside),
+    (b"wstring", Keyword::Outside),
+    (b"const", Keyword::Outside),
+    (b"interface", Keyword::Outside),
+    (b"valuetype", Keyword::Outside),
+    (b"bitset", Keyword::Outside),
+    (b"fixed", Keyword::Outside),
+    (b"any", Keyword::Outside),
+];
+
+fn lookup(mut table: &[(&[u8], Keyword)], word: &[u8]) -> Option<Keyword>
+    ensures { result ≡ spec.lookup (map (λ k. (k.0.now, k.1)) table.entry.now) word.now }
+{
+    while let [entry, rest @ ..] = table {
+        if same(entry.0, word) {
+            return Some(entry.1);
+        }
+        table = rest;
+    }
+    None
+}
+
+/// The keyword that a word is.
+#[tactic(auto, unfolding(crate::specs::Words::keyword))]
+pub fn keyword_of(word: &[u8]) -> Option<Keyword>
+    ensures { result ≡ spec.keyword word.now }
+{
+    lookup(&KEYWORDS, word)
+}

@@ -1,0 +1,4 @@
+pub mod Classes
+pub mod Numerals
+pub mod Tokens
+pub mod Worked

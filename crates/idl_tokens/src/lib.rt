@@ -1,0 +1,10 @@
+//! The tokens of an IDL text (OMG IDL 4.2, 7.2, in this profile): words, numbers, characters, texts and marks, with blanks and comments
+//! between them.
+#![tactic(auto)]
+
+mod classes;
+mod numerals;
+mod tokens;
+
+pub use numerals::{is_negative, magnitude, signed_32, unsigned_in};
+pub use tokens::{Token, TokenKind, is_seen, same, skip};

@@ -1,0 +1,2 @@
+pub mod NameLoops
+pub mod TypeSteps

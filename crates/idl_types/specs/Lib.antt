@@ -1,0 +1,4 @@
+pub mod State
+pub mod Names
+pub mod Views
+pub mod Types
