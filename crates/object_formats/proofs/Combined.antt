@@ -1,14 +1,13 @@
 -- A format made of formats that go both ways goes both ways.
-use Rattle.std.proofs.Common.{◌≡◌, ℕ, zero, suc, ◌+◌, ◌-◌, ◌*◌, ◌/◌, ◌%◌, ◌^◌, ◌<◌, ◌≤◌, ℤ, pos, negsuc, Bool, true, false, cond, ltb, leb, eqb, List, [], ◌∷◌, ◌++◌, length, get_or, take, drop, Option, Some, None, Result, Ok, Err, refl, sym, ap, subst, ◌∙◌, append_assoc, arith, inl, inr, pow-suc}
-use Rattle.std.specs.Prelude.{not, ◌&&◌, ◌||◌, nat_lt, nat_le, ◌==◌}
-use Rattle.std.proofs.lemmas.Bool.{cases_lt, ltb-true, ltb-false, le-ltb, lt-ltb, eqb-true, eq-eqb, ne_eqb, and_parts, and_from}
-use Rattle.std.proofs.lemmas.List.{take_at, drop_at, take-append-drop, length-append, length-take-le, length-drop, append-nil, nil_from_length}
+use Rattle.std.proofs.Common.{◌≡◌, ℕ, zero, suc, ◌+◌, ◌%◌, ◌^◌, ◌<◌, ◌≤◌, Bool, true, false, cond, ltb, List, [], ◌∷◌, ◌++◌, length, take, drop, Option, Some, None, Ok, refl, sym, ap, subst, ◌∙◌, append_assoc, arith}
+use Rattle.std.specs.Prelude.{not, ◌&&◌, ◌==◌}
+use Rattle.std.proofs.lemmas.Bool.{ltb-true, ltb-false, le-ltb, lt-ltb, eqb-true, and_parts, and_from}
+use Rattle.std.proofs.lemmas.List.{take_at, drop_at, take-append-drop, length-append, length-take-le, append-nil, nil_from_length}
 use Rattle.object_formats.specs.declared.faults.ObjectRule.{ObjectRule}
 use Rattle.object_formats.specs.declared.faults.ObjectRule.TheVariants as rules
-use Rattle.object_formats.specs.declared.faults.Fault.{Fault}
-use Rattle.object_formats.specs.Octets.{octets, number, zeros, padding}
+use Rattle.object_formats.specs.Octets.{octets, zeros, padding}
 use Rattle.object_formats.specs.Format.{Format, Spot, spot, fault, ◌>>=◌, is_short, aligned, num, nothing, both, before, behind, only, in_part, spelled_part, part, chosen, tagged, closed, counted, each_at, each_spelled, each_good, several}
-use Rattle.object_formats.proofs.Lawful.{IsOctets, IsOctets-take, then_ok, bind_ok, ok_is, test_ok, short_ok, Took, Took-then, Took-octets, Taken, Lawful, length-num, lawful_num, length-octets, length-zeros}
+use Rattle.object_formats.proofs.Lawful.{IsOctets, IsOctets-take, then_ok, bind_ok, ok_is, test_ok, Took, Took-then, Took-octets, Taken, Lawful, length-num, lawful_num}
 
 pub lawful_nothing : Lawful nothing
 lawful_nothing = record {

@@ -1,13 +1,11 @@
 -- A field that is spelled is read again, and a field that is read is spelled so.
-use Rattle.std.proofs.Common.{◌≡◌, ℕ, zero, suc, ◌+◌, ◌-◌, ◌*◌, ◌/◌, ◌%◌, ◌^◌, ◌<◌, ◌≤◌, ℤ, pos, negsuc, Bool, true, false, cond, ltb, leb, eqb, List, [], ◌∷◌, ◌++◌, length, get_or, take, drop, Option, Some, None, Result, Ok, Err, refl, sym, ap, subst, ◌∙◌, append_assoc, arith, inl, inr, pow-suc}
-use Rattle.std.specs.Prelude.{not, ◌&&◌, ◌||◌}
-use Rattle.std.proofs.lemmas.Bool.{cases_lt, ltb-true, ltb-false, le-ltb, lt-ltb, eqb-true, eq-eqb, and_parts, and_from}
-use Rattle.std.proofs.lemmas.List.{take_at, drop_at, take-append-drop, length-append, length-take-le, length-drop, length-take, get_or-drop, get_or-take, get_or_past, get_or-append-add, append-nil, take_all}
-use Rattle.object_formats.specs.declared.faults.ObjectRule.{ObjectRule}
+use Rattle.std.proofs.Common.{◌≡◌, ℕ, zero, suc, ◌+◌, ◌*◌, ◌/◌, ◌%◌, ◌^◌, ◌<◌, ◌≤◌, Bool, true, false, cond, ltb, List, [], ◌∷◌, ◌++◌, length, get_or, take, drop, Result, Ok, Err, refl, sym, ap, subst, ◌∙◌, append_assoc, arith, inl, inr, pow-suc}
+use Rattle.std.proofs.lemmas.Bool.{cases_lt, ltb-true, ltb-false, le-ltb, lt-ltb, eqb-true, eq-eqb}
+use Rattle.std.proofs.lemmas.List.{take_at, drop_at, take-append-drop, length-append, length-take-le, length-take, get_or-drop, get_or-take, get_or_past, get_or-append-add}
 use Rattle.object_formats.specs.declared.faults.ObjectRule.TheVariants as rules
 use Rattle.object_formats.specs.declared.faults.Fault.{Fault}
 use Rattle.object_formats.specs.Octets.{octets, number, zeros, padding}
-use Rattle.object_formats.specs.Format.{Format, Spot, spot, fault, ◌>>=◌, is_short, raw_at, past, aligned, raw, num}
+use Rattle.object_formats.specs.Format.{Format, Spot, spot, ◌>>=◌, raw_at, past, raw, num}
 
 abbrev pub IsOctets : List ℕ → Type 0
 IsOctets bs = (i : ℕ) → get_or bs i 0 < 256

@@ -1,28 +1,24 @@
 -- The formats of objects and identifiers go both ways.
-use Rattle.std.proofs.Common.{◌≡◌, ℕ, zero, suc, ◌+◌, ◌-◌, ◌*◌, ◌/◌, ◌%◌, ◌^◌, ◌<◌, ◌≤◌, ℤ, pos, negsuc, Bool, true, false, cond, ltb, leb, eqb, List, [], ◌∷◌, ◌++◌, length, get_or, take, drop, Option, Some, None, Result, Ok, Err, refl, sym, ap, subst, ◌∙◌, append_assoc, arith, inl, inr}
-use Rattle.std.specs.Prelude.{not, ◌&&◌, ◌||◌, nat_lt, nat_le, ◌==◌}
-use Rattle.std.proofs.lemmas.Bool.{cases_lt, ltb-true, ltb-false, le-ltb, lt-ltb, eqb-true, eq-eqb, ne_eqb, and_parts, and_from}
-use Rattle.std.proofs.lemmas.List.{length-append, append-nil, nil_from_length}
+use Rattle.std.proofs.Common.{◌≡◌, ℕ, zero, suc, ◌+◌, ◌-◌, ◌^◌, ◌<◌, ℤ, Bool, true, false, cond, List, [], ◌∷◌, length, Option, Some, None, Ok, refl, sym, ap, ◌∙◌, arith}
+use Rattle.std.specs.Prelude.{◌&&◌, ◌==◌}
+use Rattle.std.proofs.lemmas.Bool.{ltb-true, eqb-true, eq-eqb, and_parts}
+use Rattle.std.proofs.lemmas.List.{length-append}
 use Rattle.xt_shapes.specs.declared.leaves.Primitive.{Primitive}
 use Rattle.xt_shapes.specs.declared.leaves.Primitive.TheVariants as P
-use Rattle.type_trees.specs.declared.types.HashId.{HashId}
 use Rattle.type_trees.specs.declared.types.Name.{Name}
 use Rattle.type_trees.specs.declared.types.Name.TheVariants.{Full, Hashed}
 use Rattle.object_formats.specs.declared.objects.ObjectLiteral.{ObjectLiteral}
 use Rattle.object_formats.specs.declared.objects.ObjectFlag.{ObjectFlag}
 use Rattle.object_formats.specs.declared.faults.ObjectRule.TheVariants as rules
-use Rattle.object_formats.specs.declared.faults.Fault.{Fault}
-use Rattle.object_formats.specs.Octets.{octets, number, with_sign, without_sign}
+use Rattle.object_formats.specs.Octets.{with_sign, without_sign}
 use Rattle.object_formats.specs.declared.codes.Code.{Code}
 use Rattle.object_formats.specs.declared.codes.Code.TheVariants as C
-use Rattle.object_formats.specs.declared.codes.Kind.{Kind}
-use Rattle.object_formats.specs.declared.codes.Kind.TheVariants as K
-use Rattle.object_formats.specs.Format.{Format, Spot, spot, fault, ◌>>=◌, aligned, raw, num, text, nothing, both, before, behind, only, in_part, spelled_part, part, tagged, counted, several, here, exactly}
-use Rattle.object_formats.specs.Objects.{Identifier, MemberPart, CasePart, Object}
-use Rattle.object_formats.specs.Objects.{none, prim, str, sequence, array, map_of, hash, alias, enumeration, bitmask, structure, union}
+use Rattle.object_formats.specs.Format.{Format, fault, aligned, raw, num, text, nothing, both, before, only, in_part, spelled_part, part, tagged, counted, several, here, exactly}
+use Rattle.object_formats.specs.Objects.{Identifier, MemberPart, CasePart}
+use Rattle.object_formats.specs.Objects.{none, prim, str, sequence, array, map_of, hash}
 use Rattle.object_formats.specs.Tables as T
-use Rattle.object_formats.proofs.Lawful.{IsOctets, then_ok, bind_ok, ok_is, test_ok, Took, Taken, Lawful, length-num, lawful_num, lawful_raw, number_again, octets_back, length-octets}
-use Rattle.object_formats.proofs.Combined.{lawful_nothing, lawful_both, lawful_before, lawful_behind, lawful_only, lawful_part, lawful_tagged, lawful_counted, lawful_several, num4_good}
+use Rattle.object_formats.proofs.Lawful.{bind_ok, Lawful, length-num, lawful_num, lawful_raw}
+use Rattle.object_formats.proofs.Combined.{lawful_nothing, lawful_both, lawful_before, lawful_behind, lawful_only, lawful_part, lawful_tagged, lawful_counted, lawful_several}
 use Rattle.object_formats.proofs.Texts.{lawful_text, sign_back, sign_made}
 
 pub some_is : {A : Type 0} (x y : A) → (let o : Option A = Some x in o) ≡ Some y → x ≡ y

@@ -1,15 +1,14 @@
 -- Texts go both ways, and so do the formats of objects.
-use Rattle.std.proofs.Common.{◌≡◌, ℕ, zero, suc, ◌+◌, ◌-◌, ◌*◌, ◌/◌, ◌%◌, ◌^◌, ◌<◌, ◌≤◌, ℤ, pos, negsuc, Bool, true, false, cond, ltb, leb, eqb, List, [], ◌∷◌, ◌++◌, length, get_or, take, drop, Option, Some, None, Result, Ok, Err, refl, sym, ap, subst, ◌∙◌, append_assoc, arith, inl, inr}
-use Rattle.std.specs.Prelude.{not, ◌&&◌, ◌||◌, nat_lt, nat_le, ◌==◌}
-use Rattle.std.proofs.lemmas.Bool.{cases_lt, ltb-true, ltb-false, le-ltb, lt-ltb, le-leb, leb-true, eqb-true, eq-eqb, ne_eqb, and_parts, and_from}
+use Rattle.std.proofs.Common.{◌≡◌, ℕ, zero, suc, ◌+◌, ◌-◌, ◌^◌, ◌<◌, ◌≤◌, ℤ, pos, negsuc, Bool, true, false, cond, ltb, List, [], ◌∷◌, ◌++◌, length, Option, Some, None, Result, Ok, Err, refl, sym, ap, subst, ◌∙◌, append_assoc, arith, inl, inr}
+use Rattle.std.specs.Prelude.{not, ◌||◌, nat_lt, nat_le, ◌==◌}
+use Rattle.std.proofs.lemmas.Bool.{cases_lt, ltb-true, ltb-false, le-ltb, lt-ltb, le-leb, leb-true, ne_eqb, and_parts, and_from}
 use Rattle.std.proofs.lemmas.List.{length-append}
-use Rattle.object_formats.specs.declared.faults.ObjectRule.{ObjectRule}
 use Rattle.object_formats.specs.declared.faults.ObjectRule.TheVariants as rules
 use Rattle.object_formats.specs.declared.faults.Fault.{Fault}
-use Rattle.object_formats.specs.Octets.{octets, number, zeros, padding, with_sign, without_sign}
-use Rattle.object_formats.specs.Format.{Format, Spot, spot, fault, ◌>>=◌, aligned, num, has_nul, led_by, ended, told, raw_at, text}
-use Rattle.object_formats.proofs.Lawful.{IsOctets, then_ok, bind_ok, ok_is, Took, Took-then, Taken, Lawful, length-num, lawful_num, raw_again, raw_taken}
-use Rattle.object_formats.proofs.Combined.{not_true, num4_good, behind_count}
+use Rattle.object_formats.specs.Octets.{with_sign, without_sign}
+use Rattle.object_formats.specs.Format.{Spot, spot, fault, ◌>>=◌, aligned, num, has_nul, led_by, ended, told, raw_at, text}
+use Rattle.object_formats.proofs.Lawful.{then_ok, bind_ok, ok_is, Took, Took-then, Lawful, lawful_num, raw_again, raw_taken}
+use Rattle.object_formats.proofs.Combined.{not_true, num4_good}
 
 or_parts : (a b : Bool) → (a || b) ≡ false → (a ≡ false) × (b ≡ false)
 or_parts true b e = absurd cc

@@ -1,17 +1,15 @@
 -- Each object has one text, and each text one object.
-use Rattle.std.proofs.Common.{◌≡◌, ℕ, zero, suc, ◌+◌, ◌-◌, ◌*◌, ◌^◌, ◌<◌, ◌≤◌, ℤ, Bool, true, false, cond, ltb, eqb, List, [], ◌∷◌, ◌++◌, length, Option, Some, None, Result, Ok, Err, refl, sym, ap, subst, ◌∙◌, arith}
-use Rattle.std.specs.Prelude.{not, ◌&&◌, nat_lt, ◌==◌}
-use Rattle.std.proofs.lemmas.Bool.{ltb-true, ltb-false, le-ltb, eqb-true, and_parts}
+use Rattle.std.proofs.Common.{◌≡◌, ℕ, ◌+◌, ◌<◌, ◌≤◌, Bool, true, false, cond, ltb, List, [], ◌++◌, length, Option, Some, None, Result, Ok, Err, refl, sym, ap, subst, ◌∙◌, arith}
+use Rattle.std.specs.Prelude.{◌&&◌, nat_lt, ◌==◌}
+use Rattle.std.proofs.lemmas.Bool.{ltb-false, le-ltb, eqb-true, and_parts}
 use Rattle.std.proofs.lemmas.List.{append-nil, nil_from_length}
 use Rattle.object_formats.specs.declared.objects.ObjectLiteral.{ObjectLiteral}
 use Rattle.object_formats.specs.declared.objects.ObjectFlag.{ObjectFlag}
 use Rattle.object_formats.specs.declared.faults.ObjectRule.TheVariants as rules
 use Rattle.object_formats.specs.declared.faults.Fault.{Fault}
-use Rattle.object_formats.specs.declared.codes.Code.{Code}
-use Rattle.object_formats.specs.declared.codes.Code.TheVariants as C
 use Rattle.object_formats.specs.declared.codes.Kind.{Kind}
 use Rattle.object_formats.specs.declared.codes.Kind.TheVariants as K
-use Rattle.object_formats.specs.Format.{Format, Spot, spot, fault, ◌>>=◌, num, nothing, both, before, behind, part, tagged, counted, several}
+use Rattle.object_formats.specs.Format.{spot, fault, ◌>>=◌, num, both, before, behind, tagged, counted}
 use Rattle.object_formats.specs.Objects.{Identifier, MemberPart, CasePart, Object}
 use Rattle.object_formats.specs.Objects.{alias, enumeration, bitmask, structure, union}
 use Rattle.std.specs.Prelude.{IfOk}
@@ -19,7 +17,7 @@ use Rattle.object_formats.specs.declared.faults.ObjectFault.{ObjectFault}
 use Rattle.object_formats.specs.declared.objects.TypeObject.{TypeObject}
 use Rattle.object_formats.specs.View.{object, Answers}
 use Rattle.object_formats.specs.Tables as T
-use Rattle.object_formats.proofs.Lawful.{IsOctets, then_ok, bind_ok, ok_is, test_ok, Took, Taken, Lawful, lawful_num}
+use Rattle.object_formats.proofs.Lawful.{IsOctets, then_ok, bind_ok, test_ok, Lawful, lawful_num}
 use Rattle.object_formats.proofs.Combined.{lawful_both, lawful_before, lawful_behind, lawful_part, lawful_tagged, lawful_counted}
 use Rattle.object_formats.proofs.Tables.{some_is, pick, lawful_no_flags, lawful_flags, lawful_detail, lawful_closing, lawful_base, lawful_identifier, lawful_literal, lawful_flag, lawful_member, lawful_case, literal_filled, flag_filled, member_filled, case_filled, lawful_listed}
 

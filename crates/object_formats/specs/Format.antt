@@ -1,5 +1,5 @@
 -- Formats: what is spelled and what is read, said once.
-use Rattle.std.specs.Prelude.{ℕ, zero, suc, ◌+◌, ◌-◌, ◌^◌, ℤ, List, [], ◌∷◌, ◌++◌, Bool, true, false, cond, not, ◌&&◌, ◌||◌, Option, Some, None, Result, Ok, Err, length, take, drop, nat_lt, nat_le, ◌==◌}
+use Rattle.std.specs.Prelude.{ℕ, zero, suc, ◌+◌, ◌^◌, List, [], ◌∷◌, ◌++◌, Bool, true, false, cond, not, ◌&&◌, ◌||◌, Option, Some, None, Result, Ok, Err, length, take, drop, nat_lt, nat_le, ◌==◌}
 use Rattle.object_formats.specs.declared.faults.ObjectRule.{ObjectRule}
 use Rattle.object_formats.specs.declared.faults.ObjectRule.TheVariants.{Short, Padding, Delimiter, Text}
 use Rattle.object_formats.specs.declared.faults.Fault.{Fault}

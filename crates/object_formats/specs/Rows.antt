@@ -1,12 +1,12 @@
 -- Worked examples, by computation.
-use Rattle.std.specs.Prelude.{◌≡◌, ℕ, List, [], ◌∷◌, ◌++◌, None, Ok, Result, true, take}
-use Rattle.type_trees.specs.declared.types.Name.TheVariants.{Full, Hashed}
+use Rattle.std.specs.Prelude.{◌≡◌, ℕ, List, [], ◌∷◌, ◌++◌, None, Ok, true, take}
+use Rattle.type_trees.specs.declared.types.Name.TheVariants.{Hashed}
 use Rattle.xt_shapes.specs.declared.leaves.Primitive.TheVariants.{Int32}
 use Rattle.object_formats.specs.declared.faults.ObjectRule.TheVariants as rules
-use Rattle.object_formats.specs.Format.{fault, raw_at, past, aligned, raw, num, ended, text, each_at, each_spelled, each_good}
-use Rattle.object_formats.specs.Octets.{octets, number, zeros, padding, with_sign, without_sign}
+use Rattle.object_formats.specs.Format.{fault, raw_at, past, aligned, raw, num, each_at, each_spelled, each_good}
+use Rattle.object_formats.specs.Octets.{octets, number, zeros, padding}
 use Rattle.object_formats.specs.Objects.{Object, prim, none, structure}
-use Rattle.object_formats.specs.Tables.{object_of, text_of, is_well_formed, object, struct_body, base, member, identifier, nested, name, detail, closing, code_of, code_octet, type_flags, member_flags, too_deep}
+use Rattle.object_formats.specs.Tables.{object_of, text_of, is_well_formed, object, struct_body, base, member, identifier, nested, name, detail, code_of, code_octet, type_flags, member_flags}
 use mathlib.Core.Path.{refl}
 
 -- a structure of one long named color

@@ -1,5 +1,5 @@
 -- What an object is spelled as. The numbers of kinds and flags are the standard's (DDS-XTypes 1.3, annex B); the layout is this profile's own.
-use Rattle.std.specs.Prelude.{ℕ, zero, suc, ◌+◌, ◌-◌, ◌*◌, ◌%◌, ◌/◌, ◌^◌, ℤ, List, [], ◌∷◌, Bool, true, false, cond, not, ◌&&◌, ◌||◌, Option, Some, None, Result, Ok, length, nat_lt, nat_le, ◌==◌}
+use Rattle.std.specs.Prelude.{ℕ, zero, suc, ◌+◌, ◌-◌, ◌%◌, ℤ, List, [], ◌∷◌, Bool, true, false, cond, not, ◌&&◌, ◌||◌, Option, Some, None, Result, Ok, length, nat_lt, nat_le, ◌==◌}
 use Rattle.xt_shapes.specs.declared.leaves.Primitive.{Primitive}
 use Rattle.xt_shapes.specs.declared.leaves.Primitive.TheVariants as P
 use Rattle.type_trees.specs.declared.types.HashId.{HashId}
@@ -7,7 +7,6 @@ use Rattle.type_trees.specs.declared.types.Name.{Name}
 use Rattle.type_trees.specs.declared.types.Name.TheVariants.{Full, Hashed}
 use Rattle.object_formats.specs.declared.objects.ObjectLiteral.{ObjectLiteral}
 use Rattle.object_formats.specs.declared.objects.ObjectFlag.{ObjectFlag}
-use Rattle.object_formats.specs.declared.faults.ObjectRule.{ObjectRule}
 use Rattle.object_formats.specs.declared.faults.ObjectRule.TheVariants as rules
 use Rattle.object_formats.specs.declared.faults.Fault.{Fault}
 use Rattle.object_formats.specs.declared.codes.Code.{Code}
@@ -16,8 +15,8 @@ use Rattle.object_formats.specs.declared.codes.Kind.{Kind}
 use Rattle.object_formats.specs.declared.codes.Kind.TheVariants as K
 use Rattle.object_formats.specs.declared.codes.Flags.{Flags}
 use Rattle.object_formats.specs.declared.codes.Flags.TheVariants as W
-use Rattle.object_formats.specs.Octets.{octets, number, with_sign, without_sign}
-use Rattle.object_formats.specs.Format.{Format, Spot, spot, fault, ◌>>=◌, aligned, raw, num, text, nothing, both, before, behind, only, part, tagged, counted, several, here, exactly}
+use Rattle.object_formats.specs.Octets.{with_sign, without_sign}
+use Rattle.object_formats.specs.Format.{Format, spot, fault, ◌>>=◌, aligned, raw, num, text, nothing, both, before, behind, only, part, tagged, counted, several, here, exactly}
 use Rattle.object_formats.specs.Objects.{Identifier, MemberPart, CasePart, Object}
 use Rattle.object_formats.specs.Objects.{none, prim, str, sequence, array, map_of, hash, alias, enumeration, bitmask, structure, union}
 

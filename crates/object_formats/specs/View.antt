@@ -1,5 +1,5 @@
 -- What the program's objects stand for, and what its readers give.
-use Rattle.std.specs.Prelude.{◌≡◌, ℕ, List, map, Result, Ok, Err}
+use Rattle.std.specs.Prelude.{◌≡◌, map, Result, Ok, Err}
 use Rattle.object_formats.specs.declared.faults.Fault.{Fault}
 use Rattle.object_formats.specs.declared.faults.ObjectFault.{ObjectFault}
 use Rattle.object_formats.specs.declared.faults.ObjectFault.TheVariants as faults

@@ -1,5 +1,5 @@
 -- What was read so far, and what is still to read.
-use Rattle.std.proofs.Common.{◌≡◌, refl, sym, ap, ◌∙◌, subst, ℕ, ◌+◌, ◌-◌, ◌≤◌, ◌<◌, min, Bool, true, false, List, [], ◌∷◌, ◌++◌, length, take, drop, cond, nat_lt, ltb, Option, Some, None, Result, Ok, Err, arith, length-take, length-drop, inl, inr, add_assoc, nat_eq}
+use Rattle.std.proofs.Common.{◌≡◌, refl, sym, ap, ◌∙◌, ℕ, ◌+◌, ◌-◌, ◌≤◌, ◌<◌, min, Bool, true, false, List, length, take, drop, cond, nat_lt, Option, Some, None, Result, Ok, Err, arith, length-take, length-drop, inl, inr, add_assoc, nat_eq}
 use Rattle.std.specs.Option.{option_map}
 use Rattle.std.specs.Prelude.{IfSome}
 use Rattle.std.proofs.lemmas.List.{drop-drop, drop-take, take-append-le, take-append-drop}
@@ -16,8 +16,8 @@ use Rattle.wire_cursor.specs.declared.faults.DecodeFault.TheVariants.{Malformed,
 use Rattle.xcdr_model.specs.Numbers.{padding, number}
 use Rattle.xcdr_model.specs.declared.malformed.Fault.{Fault}
 use Rattle.xcdr_model.specs.Reading.{Spot, Reading, fault_at, ◌>>=◌, step, number_at, octets_at, front, passing, filling, dheader}
-use Rattle.wire_cursor.specs.Standing.{Standing, Stands, Along, Within, Moved, Stayed, Stopped, IsShort, Entered, GoesOn, Gives, room}
-use Rattle.wire_cursor.specs.Decoding.{spot, after, Reads, IsFault, Answers, HasRisen, Decodes, Fails, Left}
+use Rattle.wire_cursor.specs.Standing.{Standing, Stands, Along, Within, Moved, Entered, GoesOn, Gives, room}
+use Rattle.wire_cursor.specs.Decoding.{spot, after, Reads, IsFault, Answers, Decodes, Fails, Left}
 use Rattle.wire_cursor.specs.Steps.{going, align_at, pass_at, placed_at, cut_result}
 
 -- what was read, from an answer

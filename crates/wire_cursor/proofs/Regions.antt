@@ -1,15 +1,14 @@
 -- Parts in regions of their own: what was read in the region is what is read of the part.
 use Rattle.std.proofs.Common.{◌≡◌, refl, subst, ℕ, ◌⊎◌, Ok, Err, arith, inl, inr}
 use Rattle.xt_shapes.specs.declared.leaves.Order.{Order}
-use Rattle.xcdr_model.specs.declared.malformed.Fault.{Fault}
-use Rattle.xcdr_model.specs.Reading.{Spot, Reading, ◌>>=◌, step, front, passing, filling, is_used_up, dheader}
+use Rattle.xcdr_model.specs.Reading.{Spot, Reading, ◌>>=◌, step, passing, filling, is_used_up, dheader}
 use Rattle.wire_cursor.specs.declared.cursor.Outer.{Outer}
 use Rattle.wire_cursor.specs.declared.faults.DecodeFault.{DecodeFault}
 use Rattle.wire_cursor.specs.declared.frames.Framing.{Framing}
 use Rattle.wire_cursor.specs.declared.frames.Framing.TheVariants.{Open, Passed, Filled}
-use Rattle.wire_cursor.specs.Standing.{Standing, Stands, Within, Entered, room}
-use Rattle.wire_cursor.specs.Decoding.{Decodes, Fails, Left}
-use Rattle.wire_cursor.specs.Frames.{bounded, framed, Framed, Opened, OpenFails, MayLeave, MayClose, Closes, HasRest}
+use Rattle.wire_cursor.specs.Standing.{Standing, Stands, Within, Entered}
+use Rattle.wire_cursor.specs.Decoding.{Decodes, Fails}
+use Rattle.wire_cursor.specs.Frames.{bounded, framed, Opened, OpenFails, MayLeave, MayClose, Closes, HasRest}
 use Rattle.wire_cursor.proofs.Ahead.{Ahead, begins, goes_on, fails, last, read_fault, leave_fails, region_passed, region_filled, region_rest, region_fails}
 
 fails_here : {S A : Type 0} (wanted : S → A) (f : Order → Spot → Reading A) {a b : Standing} {e : DecodeFault} → Fails a b e → Decodes wanted f a b (Err e)

@@ -1,5 +1,5 @@
 -- Sizes of numbers, and octets of nothing.
-use Rattle.std.proofs.Common.{◌≡◌, ap, ◌∙◌, ℕ, ◌≤◌, List, [], ◌∷◌, length, replicate, take, arith, inl, inr}
+use Rattle.std.proofs.Common.{◌≡◌, ap, ◌∙◌, ℕ, ◌≤◌, [], ◌∷◌, length, replicate, take, arith, inl, inr}
 use Rattle.std.proofs.lemmas.List.{length-replicate, take-replicate}
 use Rattle.wire_cursor.specs.Standing.{IsUnit}
 

@@ -1,12 +1,11 @@
 -- The readings of a cursor's own calls.
-use Rattle.std.specs.Prelude.{ℕ, ◌+◌, min, length, cond, nat_lt, take, Result, Ok, Err}
+use Rattle.std.specs.Prelude.{ℕ, ◌+◌, min, length, cond, nat_lt, Result, Ok, Err}
 use Rattle.xt_shapes.specs.declared.leaves.Order.{Order}
 use Rattle.wire_cursor.specs.declared.cursor.CutFault.{CutFault}
 use Rattle.xcdr_model.specs.declared.malformed.Why.TheVariants.{Short}
 use Rattle.wire_cursor.specs.declared.faults.DecodeFault.{DecodeFault}
 use Rattle.wire_cursor.specs.Cuts.{cut_fault}
 use Rattle.xcdr_model.specs.Numbers.{padding}
-use Rattle.xcdr_model.specs.declared.malformed.Fault.{Fault}
 use Rattle.xcdr_model.specs.Reading.{Spot, Reading, ◌>>=◌, fault_at, step, number_at}
 
 -- n octets on, where there are as many

@@ -1,4 +1,4 @@
-use Rattle.std.proofs.Common.{rules, arith}
+use Rattle.std.proofs.Common.{arith}
 use Rattle.wire_cursor.proofs.Digits.{still_fits}
 use Rattle.wire_cursor.proofs.numbers.high_first.Goals as goal
 

@@ -1,4 +1,4 @@
-use Rattle.std.proofs.Common.{rules, Ok, Err, refl, sym, ap, ◌∙◌}
+use Rattle.std.proofs.Common.{Ok, Err}
 use Rattle.wire_cursor.proofs.Ahead.{decodes_align}
 use Rattle.wire_cursor.proofs.reading.read_align.Goals as goal
 

@@ -1,8 +1,8 @@
-use Rattle.std.proofs.Common.{rules, arith, ◌+◌, Ok, Err, refl, sym, ap, ◌∙◌, ◌≡◌, ℕ, ◌-◌, List, length, min, take, Some, true, false, nat_lt}
+use Rattle.std.proofs.Common.{arith, Ok, refl, ◌≡◌, ◌-◌, length, take, true, false, nat_lt}
 use Rattle.std.proofs.lemmas.Bool.{le-ltb, lt-ltb}
 use Rattle.std.proofs.lemmas.Result.{err_from_is_err_and}
 use Rattle.xcdr_model.specs.declared.malformed.Why.TheVariants as why
-use Rattle.xcdr_model.specs.Reading.{Spot, Reading, dheader, fault_at, ◌>>=◌}
+use Rattle.xcdr_model.specs.Reading.{dheader, fault_at, ◌>>=◌}
 use Rattle.wire_cursor.specs.Steps.{placed_at}
 use Rattle.wire_cursor.specs.Standing.{Standing, room}
 use Rattle.wire_cursor.specs.Placing.{placed_view}

@@ -1,4 +1,4 @@
-use Rattle.std.proofs.Common.{rules, Ok, Err, refl, sym, ap, ◌∙◌, ◌≡◌, ℕ, List, length, min, take}
+use Rattle.std.proofs.Common.{Ok, refl, ap, ◌∙◌, ◌≡◌, ℕ, length, min}
 use Rattle.std.proofs.lemmas.Result.{err_from_is_err_and}
 use Rattle.xt_shapes.specs.declared.leaves.Order.{Order}
 use Rattle.xcdr_model.specs.Numbers.{number}

@@ -1,4 +1,4 @@
-use Rattle.std.proofs.Common.{rules, Ok, Err, refl, sym, ap, ◌∙◌}
+use Rattle.std.proofs.Common.{Ok, Err}
 use Rattle.wire_cursor.proofs.Ahead.{decodes_octets}
 use Rattle.wire_cursor.proofs.reading.read_octets.Goals as goal
 

@@ -1,4 +1,4 @@
-use Rattle.std.proofs.Common.{rules, arith, subst, ◌<◌, ◌^◌, Ok, Err, refl, sym, ap, ◌∙◌, ◌≡◌, ℕ, ◌-◌, List, length, min, take, Some}
+use Rattle.std.proofs.Common.{arith, subst, ◌<◌, ◌^◌, Ok, refl, ap, ◌∙◌, ◌≡◌, ℕ, ◌-◌, List, length, min}
 use Rattle.std.proofs.lemmas.Result.{err_from_is_err_and}
 use Rattle.std.proofs.lemmas.List.{take_at}
 use Rattle.xt_shapes.specs.declared.leaves.Order.{Order}

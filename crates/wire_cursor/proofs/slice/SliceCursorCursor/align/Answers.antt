@@ -1,6 +1,5 @@
-use Rattle.std.proofs.Common.{rules, arith, sym, refl, ap, ◌∙◌, drop}
+use Rattle.std.proofs.Common.{rules, refl}
 use Rattle.std.proofs.lemmas.List.{drop-drop}
-use Rattle.std.specs.Prelude.{Some}
 use Rattle.xcdr_model.specs.Numbers.{padding}
 use Rattle.wire_cursor.proofs.slice.SliceCursorCursor.align.Goals as goal
 
