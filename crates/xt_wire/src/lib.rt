@@ -3,5 +3,6 @@
 #![tactic(auto)]
 
 pub use wire_cursor::{Cursor, CutFault, DecodeFault, Outer, SliceCursor};
+pub use wire_streams::StreamCursor;
 pub use wire_writer::Writer;
 pub use xcdr_model::Why;

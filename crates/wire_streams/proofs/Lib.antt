@@ -1,0 +1,4 @@
+pub mod Held
+pub mod Marks
+pub mod Standings
+pub mod Streaming

@@ -1,0 +1,9 @@
+//! A cursor over the payload of a record, whose octets are read from the record's reader as they are wanted.
+#![tactic(auto)]
+
+mod cursor;
+mod payload;
+#[cfg(test)]
+mod tests;
+
+pub use cursor::StreamCursor;
