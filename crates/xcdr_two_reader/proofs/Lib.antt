@@ -5,6 +5,7 @@ pub mod Readings
 pub mod Indexed
 pub mod PartSteps
 pub mod DecodeSteps
+pub mod InBlocks
 pub mod CaseSteps
 pub mod PieceSteps
 pub mod KindSteps

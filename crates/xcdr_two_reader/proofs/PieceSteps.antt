@@ -22,7 +22,7 @@ use Rattle.wire_cursor.proofs.Ahead.{Ahead, begins, goes_on, rephrased, room_is}
 use Rattle.xcdr_two_steps.specs.Headers.{Told, header_view, maybe_header, next_at}
 use Rattle.xcdr_two_steps.specs.Indices.{index_of}
 use Rattle.xcdr_two_reader.specs.declared.known.Known.{Known}
-use Rattle.xcdr_two_reader.specs.Members.{Pieces, piece_read, if_header, pieces_then, mutable_read, Holds, flag_at, has_come}
+use Rattle.xcdr_two_reader.specs.Members.{Pieces, piece_read, if_header, pieces_then, mutable_read, Holds, IsIndexed, flag_at, has_come}
 use Rattle.xcdr_two_reader.proofs.Indexed.{found, not_found, indexed}
 
 -- ---- the flags of what came
@@ -37,6 +37,9 @@ count_is (m ∷ ms) = ap (λ (n : ℕ). suc n) (count_is ms)
 
 pub held_count : (ms : List declared.Member) (k : Known) (ps : Pieces) → Holds (members_shape ms) k ps → length (by_member k.slots).1 ≡ length ms
 held_count ms k ps h = ap (λ (y : Option (List (Option Body)) × List Bool × Bool). length y.1) h.slots ∙ come_count (members_shape ms) ps.0 ∙ count_is ms
+
+pub held_index : (ms : List declared.Member) (k : Known) (ps : Pieces) → Holds (members_shape ms) k ps → IsIndexed (members_shape ms) k
+held_index ms k ps h = h.indexed
 
 flag_of : (ms : Members) (ps : List (ℕ × Part)) (i : ℕ) (h : Head) (t : Shape) → at_index ms i ≡ Some (h, t) → slice_get (have_come ms ps) i ≡ Some (is_some (built_at ps h.id))
 flag_of no_members ps i h t is = absurd cc
@@ -116,8 +119,8 @@ kept_whole ms k ps h =
     ap₂ (λ (y : Part) (u : Bool). (y.0, y.1 || u)) (ap (filled_of ms) h.slots ∙ filled_whole ms ps.0) h.unseen
     ∙ ap (λ (b : Bool). ((whole_structure ms ps.0 ps.1).0, b || ps.1)) (or_false (any_unseen ps.0))
 
-pub none_held : (ms : List declared.Member) (k : Known) → by_member k.slots ≡ (Some (replicate (length ms) None), replicate (length ms) false, false) → k.unseen ≡ false → Holds (members_shape ms) k ([], false)
-none_held ms k e u = record { slots = e ∙ ap (λ (n : ℕ). (Some (replicate n None), replicate n false, false)) (sym (count_is ms)) ∙ sym (none_came (members_shape ms)); unseen = u }
+pub none_held : (ms : List declared.Member) (k : Known) → by_member k.slots ≡ (Some (replicate (length ms) None), replicate (length ms) false, false) → k.unseen ≡ false → IsIndexed (members_shape ms) k → Holds (members_shape ms) k ([], false)
+none_held ms k e u i = record { slots = e ∙ ap (λ (n : ℕ). (Some (replicate n None), replicate n false, false)) (sym (count_is ms)) ∙ sym (none_came (members_shape ms)); unseen = u; indexed = i }
 
 -- ---- a piece
 

@@ -1,4 +1,5 @@
 pub mod Parts
+pub mod Blocks
 pub mod Members
 pub mod Insides
 pub mod Bodies

@@ -1,5 +1,5 @@
 -- The members of a mutable structure by index, and what is read of them one after another.
-use Rattle.std.specs.Prelude.{◌≡◌, ◌<◌, ℕ, zero, suc, Bool, true, false, cond, ◌||◌, List, [], ◌∷◌, ◌++◌, length, slice_get, Option, Some, None, Result, Ok, Err, is_some}
+use Rattle.std.specs.Prelude.{◌≡◌, ◌<◌, ℕ, zero, suc, Bool, true, false, cond, ◌||◌, List, [], ◌∷◌, ◌++◌, length, slice_get, Option, Some, None, Result, Ok, Err, is_some, IfSome}
 use Rattle.xt_shapes.specs.declared.leaves.Order.{Order}
 use Rattle.xt_shapes.specs.Shape.{Members}
 use Rattle.xcdr_model.specs.declared.malformed.Why.TheVariants.{Twice}
@@ -12,6 +12,7 @@ use Rattle.xcdr_two_reader.specs.declared.known.Known.{Known}
 use Rattle.xcdr_two_reader.specs.declared.known.Piece.{Piece}
 use Rattle.xcdr_two_reader.specs.declared.known.Piece.TheVariants.{Unknown, Came}
 use Rattle.xcdr_two_steps.specs.declared.headers.Header.{Header}
+use Rattle.member_index.specs.Indexed.{IsIndexOf}
 use Rattle.wire_cursor.specs.declared.faults.DecodeFault.{DecodeFault}
 use Rattle.wire_cursor.specs.declared.faults.DecodeFault.TheVariants.{Malformed}
 use Rattle.xcdr_two_steps.specs.Headers.{Told, next_at}
@@ -44,10 +45,15 @@ abbrev pub piece_of : Piece → Pieces
 piece_of (Unknown must) = ([], must)
 piece_of (Came at id part) = ((id, part_of part) ∷ [], false)
 
+-- the index, where there is one, is that of the members
+abbrev pub IsIndexed : Members → Known → Type 0
+IsIndexed ms k = IfSome k.index (IsIndexOf ms)
+
 -- what is kept of the pieces that came
 pub record Holds (ms : Members) (k : Known) (ps : Pieces) : Type 0 where
   pub slots : by_member k.slots ≡ so_far ms ps.0
   pub unseen : k.unseen ≡ ps.1
+  pub indexed : IsIndexed ms k
 
 abbrev pub flag_at : List Bool → Option ℕ → Bool
 flag_at flags None = false

@@ -12,11 +12,12 @@ ghost use Rattle.settled_parts.specs.Unions.{case_of};
 ghost use Rattle.wire_cursor.specs.Decoding.{Decodes};
 ghost use Rattle.wire_cursor.specs.Standing.{room};
 ghost use Rattle.xcdr_two_steps.specs.Headers.{header_view};
-ghost use Rattle.xcdr_two_reader.specs.Members.{mutable_read, piece_read, piece_of, IsNew, IsWithin, has_come};
+ghost use Rattle.xcdr_two_reader.specs.Members.{mutable_read, piece_read, piece_of, IsIndexed, IsNew, IsWithin, has_come};
 ghost use Rattle.xcdr_two_reader.specs.Parts.{items_read, entries_read, case_read, union_read, body_read, whole_read};
 ghost use Rattle.xcdr_two_reader.specs.Insides.{inside, members_read};
 ghost use Rattle.xcdr_two_reader.specs.Parts.{slot_read};
 
+use crate::blocks::read_numbers;
 use crate::known::{Known, Piece};
 use crate::leaves::{
     read_disc, read_enum_part, read_mask_part, read_prim_part, read_text_part, short,
@@ -26,7 +27,7 @@ use settled_parts::{
     whole_union,
 };
 use std::alloc::Global;
-use type_trees::{Case, Elem, MapType, Member, StructType, UnionType, XType};
+use type_trees::{Case, Elem, MapType, Member, StructType, UnionType, XType, as_prim};
 use wire_cursor::{
     Cursor, DecodeFault, Frame, Framing, close_frame, enter_part, open_frame, read_number,
     read_pass,
@@ -89,6 +90,9 @@ fn read_items<C: Cursor>(
     ensures { Decodes part_of (items_read bound elem.now.tc (type_shape elem.now.ty) given) (C.state cursor.old) (C.state cursor.new) result }
 {
     let count = read_count(cursor, given)?;
+    if let Some(prim) = as_prim(&elem.ty) {
+        return read_numbers(alloc, elem, bound, prim, count, cursor);
+    }
     let mut items = Items::new(alloc);
     for at in 0..count {
         let part = read_part(alloc, &elem.ty, cursor)?;
@@ -171,7 +175,7 @@ fn read_slot<C: Cursor>(
 }
 
 #[cycle(decode)]
-#[tactic(auto, using(crate::proofs::PieceSteps::held_count))]
+#[tactic(auto, using(crate::proofs::PieceSteps::held_count, crate::proofs::PieceSteps::held_index))]
 fn read_pieces<C: Cursor>(
     alloc: Global,
     members: &[Member],
@@ -204,6 +208,7 @@ fn read_piece<C: Cursor>(
     requires apart { distinct_members (members_shape members.now) ≡ true }
     requires sound { sound_members (members_shape members.now) ≡ true }
     requires count { length (by_member known.now.slots).1 ≡ length members.now }
+    requires indexed { IsIndexed (members_shape members.now) known.now }
     requires room { header.length ≤ room (C.state cursor.old) }
     requires at { (C.state cursor.old).origin ≤ header.at }
     ensures new { IfOk result (IsNew (members_shape members.now) known.now) }

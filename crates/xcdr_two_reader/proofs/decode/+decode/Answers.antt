@@ -20,7 +20,8 @@ use Rattle.wire_cursor.specs.Decoding.{Decodes}
 use Rattle.wire_cursor.proofs.Ahead.{Ahead, begins, goes_on, fails, ends, last, read_fault, malformed}
 use Rattle.wire_cursor.proofs.Regions.{may_close, may_leave, filled_fails, filled_closes, content_stops}
 use Rattle.xcdr_two_steps.specs.Bounds.{counted, whether_at}
-use Rattle.xcdr_two_reader.specs.Parts.{slot_read, entry_at, case_read, body_read, whole_read}
+use Rattle.xcdr_two_reader.proofs.InBlocks.{prim_is, items_given}
+use Rattle.xcdr_two_reader.specs.Parts.{items_read, slot_read, entry_at, case_read, body_read, whole_read}
 use Rattle.xt_shapes.specs.Shape.{Cases}
 use Rattle.xt_shapes.specs.Vals.{int}
 use Rattle.std.proofs.Common.{Result, cond}
@@ -101,6 +102,15 @@ read_items-returns g t c =
     let e = c.args.elem.now in
     let T = type_shape e.ty in
     ends part_of (λ o. items.whole_of (items_of c.loop-at.items)) (part_none (items_then c.args.bound e.tc (default_of T)) (value_at T) c.in_ok-count.count c.loop-at.at (items_of c.loop-at.items) (omega arith) c.loop-at.invariant) c.part.ensures
+
+pub read_items-read_numbers-requires : goal.read_items-read_numbers-requires
+read_items-read_numbers-requires g t c = prim_is (type_shape c.args.elem.now.ty) c.in-Some.prim c.in-Some.ensures
+
+pub read_items-returns-in-Some : goal.read_items-returns-in-Some
+read_items-returns-in-Some g t c =
+    let e = c.args.elem.now in
+    let u = goes_on (λ n. n) (counted c.args.given) (items_behind c.args.bound e.tc (type_shape e.ty)) (items_begin c.args.bound e.tc (type_shape e.ty) c.args.given (g.C.Cursor.state c.args.cursor.now)) c.in_ok-count.ensures in
+    last part_of (items_read c.args.bound e.tc (type_shape e.ty) (Some c.in_ok-count.count)) (items_given c.args.bound e.tc (type_shape e.ty) c.in_ok-count.count u) c.read_numbers.ensures
 
 -- ---- members in declared order
 

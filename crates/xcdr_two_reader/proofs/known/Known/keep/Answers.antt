@@ -11,8 +11,8 @@ use Rattle.xcdr_two_reader.proofs.known.Known.keep.Goals as goal
 pub put-requires : goal.put-requires
 put-requires c = rw c.requires.count (rw c.in-Came.is at c.requires.within)
 
-pub returns-in_ok-settled-in-Came : goal.returns-in_ok-settled-in-Came
-returns-in_ok-settled-in-Came c =
+pub returns-in_ok-went_on-in-Came : goal.returns-in_ok-went_on-in-Came
+returns-in_ok-went_on-in-Came c =
     let ms = members_shape c.args.members.now in
     let k = c.args.self.now in
     let at = c.in-Came.at in
@@ -20,6 +20,7 @@ returns-in_ok-settled-in-Came c =
     let new = rw c.in-Came.is at c.requires.new in
     let there = indexed c.args.members.now at m (rw c.in-Came.is at c.requires.within) ∙ ap (λ (n : Member). Some (member_head n, type_shape n.ty)) (sym c.index-members-at.is) in
     λ ps h. rw c.in-Came.is (record {
-      slots = c.put.ensures ∙ ap (and_slot_at (by_member k.slots) at) c.in_ok-settled-in-Came.ensures ∙ kept_slots ms k ps at c.in-Came.field-1 (part_of c.in-Came.part) (member_head m) (type_shape m.ty) c.requires.apart h new.0 new.1 there;
-      unseen = h.unseen ∙ sym (or_false ps.1);
+      slots = ap by_member c.in_ok-went_on-in-Came.ensures.slots ∙ c.put.ensures ∙ ap (and_slot_at (by_member k.slots) at) c.in_ok-settled-in-Came.ensures ∙ kept_slots ms k ps at c.in-Came.field-1 (part_of c.in-Came.part) (member_head m) (type_shape m.ty) c.requires.apart h new.0 new.1 there;
+      unseen = c.in_ok-went_on-in-Came.ensures.unseen ∙ h.unseen ∙ sym (or_false ps.1);
+      indexed = c.in_ok-went_on-in-Came.ensures.indexed h.indexed;
     })

@@ -3,4 +3,4 @@ use Rattle.xcdr_two_reader.proofs.PieceSteps.{none_held}
 use Rattle.xcdr_two_reader.proofs.known.Known.new.Goals as goal
 
 pub returns : goal.returns
-returns c = none_held c.args.members.now _ c.in_ok-new.ensures refl
+returns c = none_held c.args.members.now _ c.in_ok-new.ensures refl tt

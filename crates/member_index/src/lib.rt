@@ -1,0 +1,6 @@
+//! The members of a structure by their ids, found without going through all of them.
+#![tactic(auto)]
+
+mod index;
+
+pub use index::MemberIndex;
