@@ -1,6 +1,7 @@
-//! XCDR2 (extended CDR, encoding version 2: DDS-XTypes 1.3, 7.4.2 and 7.4.3): values of octets, and octets of values and samples. The crate
-//! gathers what the crates below it have; their own pages say how each is defined and proved.
+//! XCDR2 (extended CDR, encoding version 2: DDS-XTypes 1.3, 7.4.2 and 7.4.3): values and samples of octets, and octets of values and
+//! samples. The crate gathers what the crates below it have; their own pages say how each is defined and proved.
 #![tactic(auto)]
 
 pub use xcdr_two_reader::decode2;
+pub use xcdr_two_samples::read_sample2;
 pub use xcdr_two_writer::{encode2, size2, write_sample2};
