@@ -1,0 +1,5 @@
+pub mod Words
+pub mod Uses
+pub mod Parts
+pub mod Lines
+pub mod Worked

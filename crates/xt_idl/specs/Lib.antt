@@ -1,0 +1,4 @@
+pub mod Leading
+pub mod Whole
+pub mod Worked
+pub mod Again

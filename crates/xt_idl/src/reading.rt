@@ -1,0 +1,241 @@
+ghost use Rattle.std.specs.Prelude.{◌≡◌, ◌≤◌, length};
+ghost use Rattle.type_rules.specs.Faults.{fault_view};
+ghost use Rattle.idl_input.specs.Input.{Reads};
+ghost use Rattle.idl_types.specs.State.{declared};
+ghost use Rattle.idl_types.specs.Views.{state};
+ghost use Rattle.idl_definitions.specs.Views.{made};
+ghost use Rattle.xt_idl.specs.Whole as spec;
+ghost use Rattle.xt_idl.specs.Whole.{Leads, Changes, Declares};
+
+use crate::leading::leading_notes;
+use idl_definitions::{
+    Made, bitmask_def, enum_def, settings_of, struct_def, typedef_def, union_def,
+};
+use idl_input::{IdlFault, Keyword, Tokens};
+use idl_names::Meaning;
+use idl_tokens::TokenKind;
+use idl_types::Reader;
+use std::alloc::Global;
+use type_rules::{TypeFault, check_type};
+use type_trees::{Named, Path};
+use xt_annotations::Placed;
+use xt_lists::Row;
+
+fn definition_by<'a>(
+    tokens: &mut Tokens<'a>,
+    reader: &Reader<'a>,
+    notes: &[Placed],
+    keyword: Option<Keyword>,
+) -> Result<Made<'a>, IdlFault>
+    ensures { Reads made (spec.definition_by (state reader.now) notes.now keyword tokens.old) result tokens.new }
+{
+    match keyword {
+        Some(Keyword::Struct) => struct_def(tokens, reader, settings_of(notes)),
+        Some(Keyword::Union) => union_def(tokens, reader, settings_of(notes)),
+        Some(Keyword::Enum) => enum_def(tokens, reader, settings_of(notes)),
+        Some(Keyword::Bitmask) => bitmask_def(tokens, reader, settings_of(notes)),
+        Some(Keyword::Typedef) => typedef_def(tokens, reader),
+        Some(Keyword::Outside) => Err(IdlFault::NotInProfile { at: tokens.place() }),
+        None
+        | Some(
+            Keyword::Simple(_)
+            | Keyword::Long
+            | Keyword::Unsigned
+            | Keyword::Str
+            | Keyword::Sequence
+            | Keyword::Map
+            | Keyword::Module
+            | Keyword::Switch
+            | Keyword::Case
+            | Keyword::Default
+            | Keyword::True
+            | Keyword::False,
+        ) => Err(tokens.syntax()),
+    }
+}
+
+/// The rule that a type breaks, and where.
+fn fault_of(found: &Made<'_>) -> Option<TypeFault>
+    ensures { fault_view result ≡ spec.fault_of (made found.now) }
+{
+    if !found.fits {
+        return Some(TypeFault {
+            rule: 17,
+            node: Path::empty(),
+        });
+    }
+    check_type(&found.ty).err()
+}
+
+/// Declares a type, where it is valid.
+fn declare<'a>(reader: &mut Reader<'a>, found: Made<'a>) -> Result<(), IdlFault>
+    ensures { Changes (spec.valid_or (state reader.old) (made found.entry) (spec.fault_of (made found.entry))) result (state reader.new) }
+{
+    if let Some(fault) = fault_of(&found) {
+        return Err(IdlFault::Invalid {
+            at: found.at,
+            fault,
+        });
+    }
+    let Made {
+        at: _,
+        name,
+        full,
+        ty,
+        fits: _,
+    } = found;
+    reader.declare(name, full, ty)?;
+    Ok(())
+}
+
+/// A definition, from its keyword on.
+#[tactic(auto, unfolding(crate::specs::Whole::typed))]
+fn typed<'a>(
+    tokens: &mut Tokens<'a>,
+    reader: &mut Reader<'a>,
+    notes: &[Placed],
+) -> Result<(), IdlFault>
+    ensures { Leads (spec.typed (state reader.old) notes.now tokens.old) result (state reader.new) tokens.new }
+{
+    let keyword = tokens.keyword();
+    let found = definition_by(tokens, reader, notes, keyword)?;
+    declare(reader, found)
+}
+
+/// Opens a module's scope.
+#[tactic(auto, unfolding(crate::specs::Whole::module_def))]
+fn module_def<'a>(tokens: &mut Tokens<'a>, reader: &mut Reader<'a>) -> Result<(), IdlFault>
+    ensures { Leads (spec.module_def (state reader.old) tokens.old) result (state reader.new) tokens.new }
+{
+    tokens.take();
+    let at = tokens.place();
+    let name = tokens.name()?;
+    match reader.meaning(name) {
+        None => {
+            tokens.want(b"{")?;
+            reader.open(name)?;
+            Ok(())
+        }
+        Some(Meaning::Module(number)) => {
+            tokens.want(b"{")?;
+            reader.open_again(number, name)?;
+            Ok(())
+        }
+        Some(Meaning::Type(_)) => Err(IdlFault::Twice { at }),
+    }
+}
+
+fn definition_or_module<'a>(
+    tokens: &mut Tokens<'a>,
+    reader: &mut Reader<'a>,
+    notes: &[Placed],
+    keyword: Option<Keyword>,
+) -> Result<(), IdlFault>
+    ensures { Leads (spec.definition_or_module (state reader.old) notes.now keyword tokens.old) result (state reader.new) tokens.new }
+{
+    match keyword {
+        Some(Keyword::Module) => module_def(tokens, reader),
+        None
+        | Some(
+            Keyword::Simple(_)
+            | Keyword::Long
+            | Keyword::Unsigned
+            | Keyword::Str
+            | Keyword::Sequence
+            | Keyword::Map
+            | Keyword::Struct
+            | Keyword::Union
+            | Keyword::Enum
+            | Keyword::Bitmask
+            | Keyword::Typedef
+            | Keyword::Switch
+            | Keyword::Case
+            | Keyword::Default
+            | Keyword::True
+            | Keyword::False
+            | Keyword::Outside,
+        ) => typed(tokens, reader, notes),
+    }
+}
+
+/// The end of a module.
+#[tactic(auto, unfolding(crate::specs::Whole::closed))]
+fn closed<'a>(tokens: &mut Tokens<'a>, reader: &mut Reader<'a>) -> Result<(), IdlFault>
+    ensures { Leads (spec.closed (state reader.old) tokens.old) result (state reader.new) tokens.new }
+{
+    tokens.take();
+    tokens.want(b";")?;
+    reader.close();
+    Ok(())
+}
+
+/// Whether a module is open and has a definition.
+fn may_close(reader: &Reader<'_>) -> bool
+    ensures { result ≡ spec.may_close (state reader.now) }
+{
+    0 < reader.depth() && !reader.is_fresh()
+}
+
+/// A definition, the opening of a module or a module's end.
+#[tactic(auto, unfolding(crate::specs::Whole::item))]
+fn item<'a>(tokens: &mut Tokens<'a>, reader: &mut Reader<'a>) -> Result<(), IdlFault>
+    ensures { Leads (spec.item (state reader.old) tokens.old) result (state reader.new) tokens.new }
+{
+    if may_close(reader) && tokens.sees(b"}") {
+        return closed(tokens, reader);
+    }
+    let notes = leading_notes(tokens, reader.alloc())?;
+    let keyword = tokens.keyword();
+    definition_or_module(tokens, reader, notes.as_slice(), keyword)
+}
+
+/// Whether the text ends here, with all modules closed.
+#[tactic(auto, unfolding(crate::specs::Whole::at_end))]
+fn at_end(tokens: &Tokens<'_>, reader: &Reader<'_>) -> bool
+    ensures { result ≡ spec.at_end (state reader.now) tokens.now }
+{
+    match tokens.kind() {
+        TokenKind::End => reader.depth() == 0,
+        TokenKind::Word
+        | TokenKind::Number
+        | TokenKind::Character
+        | TokenKind::Quoted
+        | TokenKind::Mark
+        | TokenKind::Bad => false,
+    }
+}
+
+#[tactic(auto, using(crate::proofs::TextLoops::items_go, crate::proofs::TextLoops::items_end))]
+fn items<'a>(tokens: &mut Tokens<'a>, reader: &mut Reader<'a>, turns: usize) -> Result<(), IdlFault>
+    ensures { Leads (spec.items_from turns (state reader.old) tokens.old) result (state reader.new) tokens.new }
+{
+    for _turn in 0..turns {
+        if at_end(tokens, reader) {
+            return Ok(());
+        }
+        item(tokens, reader)?;
+    }
+    if at_end(tokens, reader) {
+        Ok(())
+    } else {
+        Err(tokens.syntax())
+    }
+}
+
+/// The types that an IDL text declares, each by its full name, in the order of the text (OMG IDL 4.2, 7.4 and 7.5; DDS-XTypes 1.3, 7.3).
+///
+/// The fault is the one at the first place, in octets from the beginning of the text, and at one place the first of these: Syntax, the
+/// first token with which the text so far begins no reading; Unknown, a name that isn't declared before; Twice, a name that is declared
+/// again in its scope; NotInProfile, a token of IDL that the profile lacks; Annotation, an `@` with the rule A1 to A9; Invalid, the name of
+/// a type that breaks a rule of valid types, which is tried only where the type's definition is whole. OutOfMemory may come in place of
+/// any of these.
+#[tactic(auto, unfolding(crate::specs::Whole::idl))]
+pub fn parse(alloc: Global, text: &[u8]) -> Result<Row<Named>, IdlFault>
+    requires { length text.now ≤ 1048576 }
+    ensures { Declares (spec.idl text.now) declared result }
+{
+    let mut reader = Reader::new(alloc);
+    let mut tokens = Tokens::new(text);
+    items(&mut tokens, &mut reader, text.len())?;
+    Ok(reader.into_types())
+}
