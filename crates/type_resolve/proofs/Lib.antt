@@ -1,0 +1,14 @@
+pub mod Added
+pub mod Loops
+pub mod Layers
+pub mod Steps
+pub mod Kept
+pub mod Short
+pub mod Present
+pub mod Back
+pub mod Weights
+pub mod Walks
+pub mod Returning
+pub mod Resolves
+pub mod Valid
+pub mod Again

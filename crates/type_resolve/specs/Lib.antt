@@ -1,0 +1,5 @@
+pub mod Objects
+pub mod Adding
+pub mod Views
+pub mod Held
+pub mod Worked

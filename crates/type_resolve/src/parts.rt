@@ -1,0 +1,209 @@
+ghost use Rattle.std.specs.Prelude.{◌≡◌, ◌++◌, ◌∷◌, [], true, false, map, IfOk, IfErr};
+ghost use Rattle.object_formats.specs.View as view;
+ghost use Rattle.type_trees.specs.View.{member_tree, case_tree};
+ghost use Rattle.type_resolve.specs.Objects as spec;
+ghost use Rattle.type_resolve.specs.Views.{seen, member_sides, case_sides};
+
+use crate::adding::made;
+use crate::flags::{case_flags, member_flags, set};
+use crate::sides::{CaseSides, MemberSides, Sides};
+use object_formats::{ObjectCase, ObjectFlag, ObjectLiteral, ObjectMember, TypeIdentifier};
+use std::alloc::Global;
+use type_object::PoolFault;
+use type_trees::{Case, Flag, Literal, Member, Name, name_number};
+use type_values::copy_name;
+use xt_lists::{OutOfMemory, Row};
+
+/// A name in full, or its hash.
+pub(crate) fn name_in(alloc: Global, complete: bool, name: &Name) -> Result<Name, OutOfMemory>
+    ensures { IfOk result (λ n. n ≡ spec.name_in complete name.now) }
+{
+    if complete {
+        copy_name(alloc, name)
+    } else {
+        Ok(Name::Hashed(name_number(name)))
+    }
+}
+
+/// A copy of the items.
+fn copy_plain<T: Copy>(alloc: Global, items: &Row<T>) -> Result<Row<T>, OutOfMemory>
+where
+    T: Drop,
+    ensures { IfOk result (λ copy. copy ≡ items.now) }
+{
+    let mut copy = Row::new(alloc);
+    for item in items.as_slice() {
+        copy.push(*item)?;
+    }
+    Ok(copy)
+}
+
+pub(crate) fn literal_parts(
+    alloc: Global,
+    complete: bool,
+    literals: &[Literal],
+) -> Result<Row<ObjectLiteral>, OutOfMemory>
+    ensures { IfOk result (λ row. row ≡ map (spec.literal_part complete) literals.now) }
+{
+    let mut row = Row::new(alloc);
+    for literal in literals {
+        row.push(ObjectLiteral {
+            value: literal.value,
+            flags: set(literal.is_default, 0x40),
+            name: name_in(alloc, complete, &literal.name)?,
+        })?;
+    }
+    Ok(row)
+}
+
+pub(crate) fn flag_parts(
+    alloc: Global,
+    complete: bool,
+    flags: &[Flag],
+) -> Result<Row<ObjectFlag>, OutOfMemory>
+    ensures { IfOk result (λ row. row ≡ map (spec.flag_part complete) flags.now) }
+{
+    let mut row = Row::new(alloc);
+    for flag in flags {
+        row.push(ObjectFlag {
+            position: u16::from(flag.position),
+            name: name_in(alloc, complete, &flag.name)?,
+        })?;
+    }
+    Ok(row)
+}
+
+#[tactic(auto, using(type_trees::proofs::Views::tree_rules))]
+fn member_part(
+    alloc: Global,
+    complete: bool,
+    member: &Member,
+    ty: TypeIdentifier,
+) -> Result<ObjectMember, OutOfMemory>
+    ensures { IfOk result (λ m. view.member m ≡ spec.member_part complete (member_tree member.now).0 (view.identifier ty)) }
+{
+    let name = name_in(alloc, complete, &member.name)?;
+    Ok(ObjectMember {
+        id: member.id,
+        flags: member_flags(member),
+        ty,
+        name,
+    })
+}
+
+#[tactic(auto, using(type_trees::proofs::Views::tree_rules))]
+fn case_part(
+    alloc: Global,
+    complete: bool,
+    case: &Case,
+    ty: TypeIdentifier,
+) -> Result<ObjectCase, OutOfMemory>
+    ensures { IfOk result (λ c. view.case c ≡ spec.case_part complete (case_tree case.now).0 (view.identifier ty)) }
+{
+    let name = name_in(alloc, complete, &case.name)?;
+    let labels = copy_plain(alloc, &case.labels)?;
+    Ok(ObjectCase {
+        id: case.id,
+        flags: case_flags(case),
+        ty,
+        labels,
+        name,
+    })
+}
+
+impl MemberSides {
+    pub(crate) fn new(alloc: Global) -> MemberSides
+        ensures { member_sides result ≡ ([], []) }
+    {
+        MemberSides {
+            minimal: Row::new(alloc),
+            complete: Row::new(alloc),
+        }
+    }
+
+    /// Appends a member with its type's identifiers.
+    pub(crate) fn push(
+        &mut self,
+        alloc: Global,
+        member: &Member,
+        ty: Sides,
+    ) -> Result<(), PoolFault>
+        ensures minimal { IfOk result (λ u. map view.member self.new.minimal ≡ map view.member self.old.minimal ++ spec.member_part false (member_tree member.now).0 (seen ty).1 ∷ []) }
+        ensures complete { IfOk result (λ u. map view.member self.new.complete ≡ map view.member self.old.complete ++ spec.member_part true (member_tree member.now).0 (seen ty).2 ∷ []) }
+        ensures only_memory { IfErr result (λ fault. fault ≡ PoolFault.OutOfMemory) }
+    {
+        made(self.push_both(alloc, member, ty))
+    }
+
+    fn push_both(&mut self, alloc: Global, member: &Member, ty: Sides) -> Result<(), OutOfMemory>
+        ensures minimal { IfOk result (λ u. map view.member self.new.minimal ≡ map view.member self.old.minimal ++ spec.member_part false (member_tree member.now).0 (seen ty).1 ∷ []) }
+        ensures complete { IfOk result (λ u. map view.member self.new.complete ≡ map view.member self.old.complete ++ spec.member_part true (member_tree member.now).0 (seen ty).2 ∷ []) }
+    {
+        let Sides {
+            plain: _,
+            minimal,
+            complete,
+        } = ty;
+        push_member(&mut self.minimal, alloc, false, member, minimal)?;
+        push_member(&mut self.complete, alloc, true, member, complete)
+    }
+}
+
+fn push_member(
+    row: &mut Row<ObjectMember>,
+    alloc: Global,
+    complete: bool,
+    member: &Member,
+    ty: TypeIdentifier,
+) -> Result<(), OutOfMemory>
+    ensures { IfOk result (λ u. map view.member row.new ≡ map view.member row.old ++ spec.member_part complete (member_tree member.now).0 (view.identifier ty) ∷ []) }
+{
+    let part = member_part(alloc, complete, member, ty)?;
+    row.push(part)
+}
+
+impl CaseSides {
+    pub(crate) fn new(alloc: Global) -> CaseSides
+        ensures { case_sides result ≡ ([], []) }
+    {
+        CaseSides {
+            minimal: Row::new(alloc),
+            complete: Row::new(alloc),
+        }
+    }
+
+    /// Appends a case with its type's identifiers.
+    pub(crate) fn push(&mut self, alloc: Global, case: &Case, ty: Sides) -> Result<(), PoolFault>
+        ensures minimal { IfOk result (λ u. map view.case self.new.minimal ≡ map view.case self.old.minimal ++ spec.case_part false (case_tree case.now).0 (seen ty).1 ∷ []) }
+        ensures complete { IfOk result (λ u. map view.case self.new.complete ≡ map view.case self.old.complete ++ spec.case_part true (case_tree case.now).0 (seen ty).2 ∷ []) }
+        ensures only_memory { IfErr result (λ fault. fault ≡ PoolFault.OutOfMemory) }
+    {
+        made(self.push_both(alloc, case, ty))
+    }
+
+    fn push_both(&mut self, alloc: Global, case: &Case, ty: Sides) -> Result<(), OutOfMemory>
+        ensures minimal { IfOk result (λ u. map view.case self.new.minimal ≡ map view.case self.old.minimal ++ spec.case_part false (case_tree case.now).0 (seen ty).1 ∷ []) }
+        ensures complete { IfOk result (λ u. map view.case self.new.complete ≡ map view.case self.old.complete ++ spec.case_part true (case_tree case.now).0 (seen ty).2 ∷ []) }
+    {
+        let Sides {
+            plain: _,
+            minimal,
+            complete,
+        } = ty;
+        push_case(&mut self.minimal, alloc, false, case, minimal)?;
+        push_case(&mut self.complete, alloc, true, case, complete)
+    }
+}
+
+fn push_case(
+    row: &mut Row<ObjectCase>,
+    alloc: Global,
+    complete: bool,
+    case: &Case,
+    ty: TypeIdentifier,
+) -> Result<(), OutOfMemory>
+    ensures { IfOk result (λ u. map view.case row.new ≡ map view.case row.old ++ spec.case_part complete (case_tree case.now).0 (view.identifier ty) ∷ []) }
+{
+    let part = case_part(alloc, complete, case, ty)?;
+    row.push(part)
+}
