@@ -218,6 +218,42 @@ const SIZES: Table = Table {
     ],
 };
 
+// Members that come in no declared order, among so many that they are found by an index.
+const MANY: Table = Table {
+    ty: Type::Structure(
+        Ext::Mutable,
+        &[
+            Field::Plain(0, OCTET),
+            Field::Plain(1, OCTET),
+            Field::Plain(2, OCTET),
+            Field::Plain(3, OCTET),
+            Field::Plain(4, OCTET),
+            Field::Plain(5, OCTET),
+            Field::Plain(6, OCTET),
+            Field::Plain(7, OCTET),
+            Field::Plain(8, OCTET),
+            Field::Plain(9, OCTET),
+            Field::Plain(10, OCTET),
+            Field::Plain(11, OCTET),
+            Field::Plain(12, OCTET),
+            Field::Plain(13, OCTET),
+            Field::Plain(14, OCTET),
+            Field::Plain(15, OCTET),
+            Field::Plain(16, OCTET),
+        ],
+    ),
+    rows: &[
+        (
+            "000B 0003 1D000000 09000000 01 000000 03000000 02 000000 28000000 07 000000 10000000 03 000000",
+            Want::Sample(&[0, 0, 0, 2, 0, 0, 0, 0, 0, 1, 0, 0, 0, 0, 0, 0, 3]),
+        ),
+        (
+            "000B 0000 15000000 09000000 01 000000 03000000 02 000000 09000000 01",
+            Want::Malformed(24, Why::Twice),
+        ),
+    ],
+};
+
 const COUNTED: Table = Table {
     ty: Type::Structure(
         Ext::Mutable,
@@ -430,6 +466,7 @@ pub const TABLES: &[Table] = &[
     MUTABLE,
     MARKS,
     SIZES,
+    MANY,
     COUNTED,
     CHOSEN,
     CHOSEN_FINAL,
