@@ -1,2 +1,3 @@
 pub mod NameLoops
 pub mod TypeSteps
+pub mod Inhabited

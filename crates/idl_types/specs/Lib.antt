@@ -1,4 +1,5 @@
 pub mod State
 pub mod Names
+pub mod Inhabited
 pub mod Views
 pub mod Types

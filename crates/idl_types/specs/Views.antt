@@ -9,4 +9,4 @@ abbrev pub scoped_name : Scoped → ScopedName
 scoped_name n = record { rooted = n.rooted; path = map (λ s. s.now) n.path; last = n.last.now }
 
 abbrev pub state : Reader → State
-state r = record { types = declared r.types; names = r.names; opened = r.opened; fresh = r.fresh }
+state r = record { types = declared r.types; names = r.scopes.names; opened = r.scopes.opened; fresh = r.fresh }

@@ -4,7 +4,9 @@
 
 mod names;
 mod opened;
+mod places;
 mod reader;
+mod scopes;
 mod types;
 
 pub use names::{Scoped, scoped_name};

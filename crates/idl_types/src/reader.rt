@@ -9,8 +9,10 @@ ghost use Rattle.idl_types.specs.Views as view;
 
 use crate::names::{Scoped, scoped_name};
 use crate::opened::Opened;
+use crate::places::place_of;
+use crate::scopes::Scopes;
 use idl_input::{IdlFault, Tokens};
-use idl_names::{Meaning, ScopedNames};
+use idl_names::Meaning;
 use std::alloc::Global;
 use type_trees::{Named, XType};
 use type_values::copy_type;
@@ -21,8 +23,7 @@ use xt_lists::{OutOfMemory, Row, Text};
 pub struct Reader<'a> {
     alloc: Global,
     types: Row<Named>,
-    names: ScopedNames<'a>,
-    opened: Row<Opened>,
+    scopes: Scopes<'a>,
     fresh: bool,
 }
 
@@ -34,8 +35,7 @@ impl<'a> Reader<'a> {
         Reader {
             alloc,
             types: Row::new(alloc),
-            names: ScopedNames::new(alloc),
-            opened: Row::new(alloc),
+            scopes: Scopes::new(alloc),
             fresh: false,
         }
     }
@@ -52,8 +52,7 @@ impl<'a> Reader<'a> {
         let Reader {
             alloc: _,
             types,
-            names: _,
-            opened: _,
+            scopes: _,
             fresh: _,
         } = self;
         types
@@ -63,7 +62,7 @@ impl<'a> Reader<'a> {
     pub fn depth(&self) -> usize
         ensures { result ≡ length (view.state self.now).opened }
     {
-        self.opened.len()
+        self.scopes.opened.len()
     }
 
     /// Whether a module was just opened.
@@ -77,21 +76,21 @@ impl<'a> Reader<'a> {
     pub fn innermost(&self) -> usize
         ensures { result ≡ spec.innermost (view.state self.now).opened }
     {
-        innermost(self.opened.as_slice())
+        self.scopes.innermost()
     }
 
     /// What a name means in the innermost scope alone.
     pub fn meaning(&self, name: &'a [u8]) -> Option<Meaning>
         ensures { result ≡ meaning (spec.innermost (view.state self.now).opened) name.now (view.state self.now).names }
     {
-        self.names.get(self.innermost(), name)
+        self.scopes.names.get(self.innermost(), name)
     }
 
     /// A name with those of the open modules before it.
     pub fn full_name(&self, name: &[u8]) -> Result<Text, OutOfMemory>
         ensures { IfOk result (λ full. full ≡ spec.full_name (view.state self.now).opened name.now) }
     {
-        full_name(self.alloc, self.opened.as_slice(), name)
+        full_name(self.alloc, self.scopes.opened.as_slice(), name)
     }
 
     /// Declares a type in the innermost scope.
@@ -99,9 +98,7 @@ impl<'a> Reader<'a> {
     pub fn declare(&mut self, name: &'a [u8], full: Text, ty: XType) -> Result<(), OutOfMemory>
         ensures { OnOk result (view.state self.new ≡ state.with_type (spec.innermost (view.state self.old).opened) name.now full (tree ty) (view.state self.old)) }
     {
-        let scope = self.innermost();
-        let meaning = Meaning::Type(self.types.len());
-        self.names.declare(scope, name, meaning)?;
+        self.scopes.declare(self.alloc, name, self.types.len())?;
         self.types.push(Named { name: full, ty })?;
         self.fresh = false;
         Ok(())
@@ -111,8 +108,7 @@ impl<'a> Reader<'a> {
     pub fn open_again(&mut self, number: usize, name: &[u8]) -> Result<(), OutOfMemory>
         ensures { OnOk result (view.state self.new ≡ state.with_module number name.now (view.state self.old)) }
     {
-        let name = Text::from_octets(self.alloc, name)?;
-        self.opened.push(Opened { number, name })?;
+        self.scopes.open_again(self.alloc, number, name)?;
         self.fresh = true;
         Ok(())
     }
@@ -122,18 +118,16 @@ impl<'a> Reader<'a> {
         requires { meaning (spec.innermost (view.state self.old).opened) name.now (view.state self.old).names ≡ None }
         ensures { OnOk result (view.state self.new ≡ spec.with_new_module name.now (view.state self.old)) }
     {
-        let scope = self.innermost();
-        let number = self.names.len() + 1;
-        self.names.add(scope, name, Meaning::Module(number))?;
-        self.open_again(number, name)
+        self.scopes.open(self.alloc, name)?;
+        self.fresh = true;
+        Ok(())
     }
 
     /// Ends the innermost module.
-    #[tactic(auto, using(crate::proofs::NameLoops::outer_is))]
     pub fn close(&mut self)
         ensures { view.state self.new ≡ state.without_module (view.state self.old) }
     {
-        self.opened.pop();
+        self.scopes.close();
         self.fresh = false;
     }
 
@@ -142,19 +136,10 @@ impl<'a> Reader<'a> {
     pub fn meant(&self, name: &Scoped<'a>) -> Option<&XType>
         ensures { option_map (λ t. tree t.now) result ≡ spec.meant (view.state self.now) (view.scoped_name name.now) }
     {
-        match place_of(&self.names, self.opened.as_slice(), name) {
+        match place_of(&self.scopes, name) {
             Some(at) => type_at(self.types.as_slice(), at),
             None => None,
         }
-    }
-}
-
-fn innermost(opened: &[Opened]) -> usize
-    ensures { result ≡ spec.innermost opened.now }
-{
-    match opened {
-        [] => 0,
-        [.., last] => last.number,
     }
 }
 
@@ -177,76 +162,6 @@ fn type_at(types: &[Named], at: usize) -> Option<&XType>
     match types.get(at) {
         Some(named) => Some(&named.ty),
         None => None,
-    }
-}
-
-/// The scope of a module in a scope.
-fn module_in<'a>(names: &ScopedNames<'a>, scope: usize, name: &'a [u8]) -> Option<usize>
-    ensures { result ≡ spec.module_in names.now (Some scope) name.now }
-{
-    match names.get(scope, name) {
-        Some(Meaning::Module(number)) => Some(number),
-        Some(Meaning::Type(_)) => None,
-        None => None,
-    }
-}
-
-/// The scope to which modules lead from a scope.
-#[tactic(auto, using(crate::proofs::NameLoops::no_scope))]
-fn scope_at<'a>(names: &ScopedNames<'a>, mut path: &[&'a [u8]], scope: usize) -> Option<usize>
-    ensures { result ≡ spec.scope_at names.now (map (λ s. s.now) path.entry.now) (Some scope) }
-{
-    let mut at = scope;
-    while let [part, rest @ ..] = path {
-        match module_in(names, at, part) {
-            Some(number) => at = number,
-            None => return None,
-        }
-        path = rest;
-    }
-    Some(at)
-}
-
-/// The place of the type that a name means in a scope.
-fn place_in<'a>(names: &ScopedNames<'a>, name: &Scoped<'a>, scope: usize) -> Option<usize>
-    ensures { result ≡ spec.place_in names.now (view.scoped_name name.now) scope }
-{
-    let within = scope_at(names, name.path.as_slice(), scope)?;
-    match names.get(within, name.last) {
-        Some(Meaning::Type(at)) => Some(at),
-        Some(Meaning::Module(_)) | None => None,
-    }
-}
-
-fn number_at(opened: &[Opened], at: usize) -> usize
-    requires { at < length opened.now }
-    ensures { result ≡ spec.number_of (slice_get opened.now at) }
-{
-    opened[at].number
-}
-
-/// The place of the type that a name means in the innermost open module, and then outwards.
-#[tactic(auto, using(crate::proofs::NameLoops::outward_more))]
-fn outward<'a>(names: &ScopedNames<'a>, opened: &[Opened], name: &Scoped<'a>) -> Option<usize>
-    ensures { result ≡ spec.outward names.now opened.now (view.scoped_name name.now) (length opened.now) }
-{
-    let mut inside = opened.len();
-    while 0 < inside {
-        inside -= 1;
-        if let Some(at) = place_in(names, name, number_at(opened, inside)) {
-            return Some(at);
-        }
-    }
-    place_in(names, name, 0)
-}
-
-fn place_of<'a>(names: &ScopedNames<'a>, opened: &[Opened], name: &Scoped<'a>) -> Option<usize>
-    ensures { result ≡ spec.place_by names.now opened.now (view.scoped_name name.now) }
-{
-    if name.rooted {
-        place_in(names, name, 0)
-    } else {
-        outward(names, opened, name)
     }
 }
 
