@@ -1,2 +1,4 @@
 pub mod DefinitionLoops
 pub mod MakeSteps
+pub mod LiteralNames
+pub mod LabelForms

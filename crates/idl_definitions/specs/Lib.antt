@@ -5,3 +5,4 @@ pub mod Structures
 pub mod Numbered
 pub mod Unions
 pub mod Views
+pub mod LiteralNames

@@ -1,5 +1,8 @@
 -- What the program's values of a definition stand for.
-use Rattle.std.specs.Prelude.{map}
+use Rattle.std.specs.Prelude.{map, None}
+use Rattle.xt_shapes.specs.declared.leaves.Ext.{Ext}
+use Rattle.xt_shapes.specs.declared.leaves.Primitive.TheVariants.{Boolean, Char8, Int32}
+use Rattle.type_trees.specs.Trees.{Tree, prim, enumeration}
 use Rattle.type_trees.specs.View.{tree, member_tree, case_tree}
 use Rattle.idl_definitions.specs.declared.made.Made as made_code
 use Rattle.idl_definitions.specs.declared.made.NewName as name_code
@@ -8,6 +11,8 @@ use Rattle.idl_definitions.specs.declared.structures.Heritage as heritage_code
 use Rattle.idl_definitions.specs.declared.listed.ListedLiterals as literals_code
 use Rattle.idl_definitions.specs.declared.numbered.ListedFlags as flags_code
 use Rattle.idl_definitions.specs.declared.unions.Gathered as gathered_code
+use Rattle.idl_definitions.specs.declared.unions.LabelForm.TheVariants as form_of
+use Rattle.idl_definitions.specs.declared.unions.LabelForm as form_code
 use Rattle.idl_definitions.specs.Members.{Listed}
 use Rattle.idl_definitions.specs.Structures.{Made, NewName, Heritage}
 use Rattle.idl_definitions.specs.Numbered.{ListedLiterals, ListedFlags}
@@ -33,3 +38,10 @@ flags l = record { flags = l.flags; names = l.names; following = l.following }
 
 abbrev pub gathered : gathered_code.Gathered → Gathered
 gathered g = record { cases = map case_tree g.cases; names = g.names; following = g.following }
+
+-- a discriminator whose labels have the form
+abbrev pub form : form_code.LabelForm → Tree
+form form_of.Truth = prim Boolean
+form form_of.Character = prim Char8
+form form_of.Number = prim Int32
+form (form_of.Literal ls) = enumeration None Ext.Final 32 ls

@@ -3,6 +3,7 @@
 #![tactic(auto)]
 
 mod listed;
+mod literals;
 mod made;
 mod members;
 mod numbered;

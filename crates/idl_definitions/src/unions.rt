@@ -7,40 +7,20 @@ ghost use Rattle.idl_definitions.specs.Lists.{to_brace};
 ghost use Rattle.idl_definitions.specs.Unions as spec;
 ghost use Rattle.idl_definitions.specs.Views as view;
 
+use crate::literals::LiteralsByName;
 use crate::made::{Made, defined, new_type};
 use crate::members::{new_name, shaped};
 use crate::settings::{Settings, settings_of};
 use idl_input::{IdlFault, Tokens};
 use idl_names::NameSet;
-use idl_tokens::{TokenKind, same, signed_32};
+use idl_tokens::{TokenKind, signed_32};
 use idl_types::{Reader, a_type, boxed, scoped_name};
 use std::alloc::Global;
-use type_trees::{Case, Literal, Member, Name, UnionType, XType};
+use type_trees::{Case, Member, UnionType, XType};
 use type_values::copy_text;
 use xt_annotations::Site;
 use xt_lists::{OutOfMemory, Row, Text};
 use xt_shapes::Prim;
-
-fn is_named(text: &[u8], name: &Name) -> bool
-    ensures { result ≡ spec.is_named text.now name.now }
-{
-    match name {
-        Name::Full(known) => same(known.octets(), text),
-        Name::Hashed(_) => false,
-    }
-}
-
-/// The value of the literal of this name.
-fn value_named(text: &[u8], literals: &[Literal]) -> Option<i32>
-    ensures { result ≡ spec.value_named text.now literals.now }
-{
-    for literal in literals {
-        if is_named(text, &literal.name) {
-            return Some(literal.value);
-        }
-    }
-    None
-}
 
 #[tactic(auto, using(type_trees::proofs::Views::tree_rules))]
 fn behind(ty: &XType) -> &XType
@@ -113,29 +93,41 @@ fn number_label(tokens: &mut Tokens<'_>) -> Result<i32, IdlFault>
 }
 
 #[tactic(auto, unfolding(crate::specs::Unions::literal_label))]
-fn literal_label(
-    tokens: &mut Tokens<'_>,
+fn literal_label<'a>(
+    tokens: &mut Tokens<'a>,
     alloc: Global,
-    literals: &[Literal],
+    literals: &LiteralsByName<'_>,
 ) -> Result<i32, IdlFault>
     ensures { Reads (λ x. x) (spec.literal_label literals.now tokens.old) result tokens.new }
 {
     let at = tokens.place();
     let name = scoped_name(tokens, alloc)?;
-    match value_named(name.last, literals) {
+    match literals.value(name.last) {
         Some(value) => Ok(value),
         None => Err(IdlFault::Unknown { at }),
     }
 }
 
-#[tactic(auto, using(type_trees::proofs::Views::tree_rules))]
-fn label_by(tokens: &mut Tokens<'_>, alloc: Global, ty: &XType) -> Result<i32, IdlFault>
-    ensures { Reads (λ x. x) (spec.label_by (tree ty.now) tokens.old) result tokens.new }
+/// How a label is written, by the discriminator's type behind its aliases.
+#[derive(Drop)]
+pub(crate) enum LabelForm<'d> {
+    Truth,
+    Character,
+    Number,
+    Literal(LiteralsByName<'d>),
+}
+
+#[tactic(auto, using(type_trees::proofs::Views::tree_rules), unfolding(crate::specs::Unions::label))]
+fn label_form<'d>(alloc: Global, disc: &'d XType) -> Result<LabelForm<'d>, OutOfMemory>
+    ensures { IfOk result (λ form. spec.label (view.form form) ≡ spec.label (tree disc.now)) }
 {
-    match ty {
-        XType::Prim(Prim::Boolean) => truth_label(tokens),
-        XType::Prim(Prim::Char8) => character_label(tokens),
-        XType::Enum(kind) => literal_label(tokens, alloc, kind.literals.as_slice()),
+    match behind(disc) {
+        XType::Prim(Prim::Boolean) => Ok(LabelForm::Truth),
+        XType::Prim(Prim::Char8) => Ok(LabelForm::Character),
+        XType::Enum(kind) => {
+            let literals = LiteralsByName::new(alloc, kind.literals.as_slice())?;
+            Ok(LabelForm::Literal(literals))
+        }
         XType::Prim(
             Prim::Byte
             | Prim::Int8
@@ -156,15 +148,20 @@ fn label_by(tokens: &mut Tokens<'_>, alloc: Global, ty: &XType) -> Result<i32, I
         | XType::Map(_)
         | XType::Struct(_)
         | XType::Union(_)
-        | XType::Alias(_) => number_label(tokens),
+        | XType::Alias(_) => Ok(LabelForm::Number),
     }
 }
 
 #[tactic(auto, unfolding(crate::specs::Unions::label))]
-fn label(tokens: &mut Tokens<'_>, alloc: Global, disc: &XType) -> Result<i32, IdlFault>
-    ensures { Reads (λ x. x) (spec.label (tree disc.now) tokens.old) result tokens.new }
+fn label(tokens: &mut Tokens<'_>, alloc: Global, form: &LabelForm<'_>) -> Result<i32, IdlFault>
+    ensures { Reads (λ x. x) (spec.label (view.form form.now) tokens.old) result tokens.new }
 {
-    label_by(tokens, alloc, behind(disc))
+    match form {
+        LabelForm::Truth => truth_label(tokens),
+        LabelForm::Character => character_label(tokens),
+        LabelForm::Number => number_label(tokens),
+        LabelForm::Literal(literals) => literal_label(tokens, alloc, literals),
+    }
 }
 
 /// Labels, and whether `default` is among them.
@@ -175,8 +172,12 @@ struct LabelList {
 }
 
 #[tactic(auto, using(crate::proofs::DefinitionLoops::labels_go, crate::proofs::DefinitionLoops::labels_end), unfolding(crate::specs::Unions::labels))]
-fn labels(tokens: &mut Tokens<'_>, alloc: Global, disc: &XType) -> Result<LabelList, IdlFault>
-    ensures { Reads (λ l. (l.values, l.is_default)) (spec.labels (tree disc.now) tokens.old) result tokens.new }
+fn labels(
+    tokens: &mut Tokens<'_>,
+    alloc: Global,
+    form: &LabelForm<'_>,
+) -> Result<LabelList, IdlFault>
+    ensures { Reads (λ l. (l.values, l.is_default)) (spec.labels (view.form form.now) tokens.old) result tokens.new }
 {
     if !(tokens.sees(b"case") || tokens.sees(b"default")) {
         return Err(tokens.syntax());
@@ -185,7 +186,7 @@ fn labels(tokens: &mut Tokens<'_>, alloc: Global, disc: &XType) -> Result<LabelL
     let mut is_default = false;
     for _turn in 0..tokens.left() {
         if tokens.eat(b"case") {
-            let value = label(tokens, alloc, disc)?;
+            let value = label(tokens, alloc, form)?;
             tokens.want(b":")?;
             values.push(value)?;
         } else if tokens.eat(b"default") {
@@ -259,13 +260,13 @@ fn another_case<'a>(
     tokens: &mut Tokens<'a>,
     reader: &Reader<'a>,
     hashed: bool,
-    disc: &XType,
+    form: &LabelForm<'_>,
     gathered: Gathered<'a>,
 ) -> Result<Gathered<'a>, IdlFault>
-    ensures { Reads view.gathered (spec.case (state reader.now) hashed (tree disc.now) (view.gathered gathered.entry) tokens.old) result tokens.new }
+    ensures { Reads view.gathered (spec.case (state reader.now) hashed (view.form form.now) (view.gathered gathered.entry) tokens.old) result tokens.new }
 {
     let alloc = reader.alloc();
-    let labels = labels(tokens, alloc, disc)?;
+    let labels = labels(tokens, alloc, form)?;
     let notes = tokens.notes_at(alloc, Site::Case)?;
     let ty = a_type(tokens, reader)?;
     let (at, name) = new_name(tokens, &gathered.names)?;
@@ -289,14 +290,14 @@ fn cases<'a>(
     tokens: &mut Tokens<'a>,
     reader: &Reader<'a>,
     hashed: bool,
-    disc: &XType,
+    form: &LabelForm<'_>,
     gathered: Gathered<'a>,
 ) -> Result<Gathered<'a>, IdlFault>
-    ensures { Reads view.gathered (to_brace (spec.case (state reader.now) hashed (tree disc.now)) (view.gathered gathered.entry) tokens.old) result tokens.new }
+    ensures { Reads view.gathered (to_brace (spec.case (state reader.now) hashed (view.form form.now)) (view.gathered gathered.entry) tokens.old) result tokens.new }
 {
     let mut gathered = gathered;
     for _turn in 0..tokens.left() {
-        gathered = another_case(tokens, reader, hashed, disc, gathered)?;
+        gathered = another_case(tokens, reader, hashed, form, gathered)?;
         if tokens.eat(b"}") {
             return Ok(gathered);
         }
@@ -312,6 +313,20 @@ fn no_cases<'a>(alloc: Global) -> Gathered<'a>
         names: NameSet::new(alloc),
         following: 0,
     }
+}
+
+/// The cases of a union over this discriminator.
+fn cases_over<'a>(
+    tokens: &mut Tokens<'a>,
+    reader: &Reader<'a>,
+    hashed: bool,
+    disc: &XType,
+) -> Result<Gathered<'a>, IdlFault>
+    ensures { Reads view.gathered (to_brace (spec.case (state reader.now) hashed (tree disc.now)) spec.no_cases_yet tokens.old) result tokens.new }
+{
+    let alloc = reader.alloc();
+    let form = label_form(alloc, disc)?;
+    cases(tokens, reader, hashed, &form, no_cases(alloc))
 }
 
 /// The discriminator's type, and whether it is a key.
@@ -368,7 +383,7 @@ pub fn union_def<'a>(
     let name = new_type(tokens, reader)?;
     let (disc, disc_key) = discriminator(tokens, reader)?;
     tokens.want(b"{")?;
-    let gathered = cases(tokens, reader, set.hashed, &disc, no_cases(alloc))?;
+    let gathered = cases_over(tokens, reader, set.hashed, &disc)?;
     tokens.want(b";")?;
     let ty = union_of(alloc, &name.full, set, disc, disc_key, gathered.cases)?;
     Ok(defined(name, ty, true))
