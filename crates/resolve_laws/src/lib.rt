@@ -1,0 +1,10 @@
+//! Laws of types and their objects: a valid type with names comes back from its complete objects.
+#![tactic(auto)]
+
+mod laws;
+mod names;
+#[cfg(test)]
+mod tests;
+
+pub use laws::{objects_are_well_formed, resolves_to_itself};
+pub use names::is_named;
