@@ -1,0 +1,4 @@
+pub mod Uses
+pub mod Structures
+pub mod Unions
+pub mod Whole
