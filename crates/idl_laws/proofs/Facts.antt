@@ -1,48 +1,19 @@
 -- What the rules of valid types say of the parts of a definition.
-use Rattle.std.proofs.Common.{◌≡◌, refl, sym, ◌∙◌, ap, ℕ, ◌≤◌, Bool, true, false, cond, List, [], ◌∷◌, map, Some, None, arith}
+use Rattle.std.proofs.Common.{◌≡◌, refl, sym, ◌∙◌, ap, ℕ, ◌≤◌, true, List, ◌∷◌, map, None, arith}
 use Rattle.std.proofs.lemmas.Bool.{and_parts}
 use Rattle.std.specs.Prelude.{max}
 use Rattle.xt_shapes.specs.Lists.{all}
 use Rattle.xt_shapes.specs.NodeRules.{is_low}
 use Rattle.xt_shapes.specs.Shape.{heads, case_heads}
 use Rattle.type_trees.specs.declared.types.Name.{Name}
-use Rattle.type_trees.specs.Trees.{Tree, Members, no_members, member, Cases, no_cases, one_case}
+use Rattle.type_trees.specs.Trees.{Members, no_members, member, Cases, no_cases, one_case}
 use Rattle.type_trees.specs.Bridge.{name_number, member_shapes, case_shapes}
 use Rattle.node_rules.specs.Names.{name_fits}
-use Rattle.node_rules.specs.Table.{member_names, case_names, failing, rules_at, first_broken}
+use Rattle.node_rules.specs.Table.{member_names, case_names}
 use Rattle.type_rules.specs.Places.{depth, members_depth, cases_depth}
-use Rattle.type_rules.specs.Valid.{first_fault, fault_inside, members_fault, cases_fault, type_fault}
-use Rattle.type_rules.proofs.DeepSteps.{first_none, unmapped, some_is}
-use Rattle.type_rules.proofs.FaultSteps.{fault_is, members_fault_step, cases_fault_step}
-
--- ---- rules at a node
-
--- each rule holds
-abbrev pub Hold : List (ℕ × Bool) → Type 0
-Hold [] = Unit {0}
-Hold (r ∷ rs) = (r.1 ≡ true) × Hold rs
-
-held : (b : Bool) (k : ℕ) (rs : List (ℕ × Bool)) → cond b (first_broken rs) (Some k) ≡ None → (first_broken rs ≡ None → Hold rs) → (b ≡ true) × Hold rs
-held true k rs e more = (refl, more e)
-held false k rs e more = absurd (some_is k e)
-
-all_hold : (rs : List (ℕ × Bool)) → first_broken rs ≡ None → Hold rs
-all_hold [] e = tt
-all_hold (r ∷ rs) e = held r.1 r.0 rs e (all_hold rs)
-
-rules_hold : (t : Tree) → failing t ≡ None → Hold (rules_at t)
-unfolding failing
-rules_hold t e = all_hold (rules_at t) e
-
--- the rules at the node, and none broken below it
-pub at_and_below : (t : Tree) → first_fault t ≡ None → Hold (rules_at t) × (fault_inside t ≡ None)
-at_and_below t e =
-    let both = first_none _ _ (sym (fault_is t) ∙ e) in
-    (rules_hold t (unmapped _ _ both.0), both.1)
-
-pub no_fault : (t : Tree) → type_fault t ≡ None → first_fault t ≡ None
-unfolding type_fault
-no_fault t e = (first_none _ _ (first_none _ _ e).1).1
+use Rattle.type_rules.specs.Valid.{first_fault, members_fault, cases_fault}
+use Rattle.type_rules.proofs.DeepSteps.{first_none, unmapped}
+use Rattle.type_rules.proofs.FaultSteps.{members_fault_step, cases_fault_step}
 
 -- ---- members and cases
 

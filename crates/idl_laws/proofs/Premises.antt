@@ -30,7 +30,8 @@ use Rattle.idl_printer.specs.Words.{name_text}
 use Rattle.idl_printer.specs.Parts.{members_behind}
 use Rattle.idl_printer.specs.Lines.{last_base, count_of}
 use Rattle.idl_laws.specs.Printable.{is_spelled, literal_fits, label_fits, EachMember, EachCase, own_members}
-use Rattle.idl_laws.proofs.Facts.{at_and_below, no_fault, GoodMembers, good_members, GoodCases, good_cases, numbers, member_numbers, case_numbers}
+use Rattle.rule_laws.proofs.Nodes.{at_and_below, no_fault}
+use Rattle.idl_laws.proofs.Facts.{GoodMembers, good_members, GoodCases, good_cases, numbers, member_numbers, case_numbers}
 use Rattle.idl_laws.proofs.Bases.{count, last_is, last_below}
 use Rattle.idl_laws.proofs.Declarators.{dims_hold}
 use Rattle.idl_laws.proofs.Members.{AreMembers, some_members}

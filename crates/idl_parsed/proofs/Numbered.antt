@@ -21,7 +21,7 @@ use Rattle.idl_definitions.specs.Notes.{settings}
 use Rattle.idl_definitions.specs.Lists.{with_commas}
 use Rattle.idl_definitions.specs.Numbered.{value_or, ListedLiterals, a_literal, with_value, literal, no_literals, position_or, ListedFlags, a_flag, with_position, flag, no_flags}
 use Rattle.idl_laws.specs.Printable.{is_spelled, is_number, literal_fits}
-use Rattle.idl_laws.proofs.Facts.{at_and_below, no_fault}
+use Rattle.rule_laws.proofs.Nodes.{at_and_below, no_fault}
 use Rattle.idl_parsed.proofs.Gives.{Yields, bind, behind, given, fails}
 use Rattle.idl_parsed.proofs.Loops.{commas_yield}
 use Rattle.idl_parsed.proofs.Members.{new_name_yields, spelled_name}

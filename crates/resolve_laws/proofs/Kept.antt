@@ -1,16 +1,17 @@
 -- A type without a fault keeps the rules on names and ids (V1 and V3) at each node.
-use Rattle.std.proofs.Common.{◌≡◌, ℕ, List, [], ◌∷◌, map, refl, sym, ◌∙◌}
+use Rattle.std.proofs.Common.{◌≡◌, ℕ, List, map, sym, ◌∙◌}
 use Rattle.std.proofs.lemmas.Bool.{and_parts}
-use Rattle.std.specs.Prelude.{Bool, true, false, nat_eq, None}
+use Rattle.std.specs.Prelude.{true, nat_eq, None}
 use Rattle.xt_shapes.specs.Lists.{all}
 use Rattle.xt_shapes.specs.Shape.{heads, case_heads}
 use Rattle.xt_shapes.specs.NodeRules.{is_low, ids_fit, distinct}
 use Rattle.type_trees.specs.Trees.{Tree, prim, str, enumeration, bitmask, sequence, array, map_of, structure, union, alias, Members, no_members, member, Cases, no_cases, one_case}
 use Rattle.type_trees.specs.Bridge.{member_shapes, case_shapes}
 use Rattle.node_rules.specs.Names.{scope_fits}
-use Rattle.node_rules.specs.Table.{failing, first_broken, rules_at, enum_names, mask_names, struct_names, union_names}
+use Rattle.node_rules.specs.Table.{failing, enum_names, mask_names, struct_names, union_names}
+use Rattle.rule_laws.proofs.Nodes.{rules_hold}
 use Rattle.type_rules.specs.Valid.{first_fault, fault_inside, members_fault, cases_fault, type_fault}
-use Rattle.type_rules.proofs.DeepSteps.{first_none, unmapped, some_is}
+use Rattle.type_rules.proofs.DeepSteps.{first_none, unmapped}
 use Rattle.type_rules.proofs.FaultSteps.{fault_is, inside_sequence, inside_array, inside_map, inside_structure, inside_union, inside_alias, members_fault_step, cases_fault_step}
 
 -- the ids of members and of cases
@@ -42,23 +43,6 @@ abbrev mutual
   CasesKeepNames no_cases = Unit {0}
   CasesKeepNames (one_case h t cs) = KeepsNames t × CasesKeepNames cs
 
--- where no rule is broken, each holds
-abbrev AllHold : List (ℕ × Bool) → Type 0
-AllHold [] = Unit {0}
-AllHold (r ∷ rules) = (r.1 ≡ true) × AllHold rules
-
-rule_holds : (n : ℕ) (holds : Bool) (rules : List (ℕ × Bool)) → first_broken ((n, holds) ∷ rules) ≡ None → (holds ≡ true) × (first_broken rules ≡ None)
-rule_holds n true rules e = (refl, e)
-rule_holds n false rules e = absurd (some_is n e)
-
-all_hold : (rules : List (ℕ × Bool)) → first_broken rules ≡ None → AllHold rules
-all_hold [] e = tt
-all_hold (r ∷ rules) e = let both = rule_holds r.0 r.1 rules e in (both.0, all_hold rules both.1)
-
-node_holds : (t : Tree) → failing t ≡ None → AllHold (rules_at t)
-unfolding failing
-node_holds t e = all_hold (rules_at t) e
-
 low_ids : (ids : List ℕ) → ids_fit ids ≡ true → all is_low ids ≡ true
 low_ids ids e = (and_parts (all is_low ids) (distinct nat_eq ids) e).0
 
@@ -71,21 +55,21 @@ mutual
   node_keeps : (t : Tree) → failing t ≡ None → fault_inside t ≡ None → KeepsNames t
   node_keeps (prim p) own below = tt
   node_keeps (str bound) own below = tt
-  node_keeps (enumeration name ext bits literals) own below = (node_holds (enumeration name ext bits literals) own).0
-  node_keeps (bitmask name bits flags) own below = (node_holds (bitmask name bits flags) own).0
+  node_keeps (enumeration name ext bits literals) own below = (rules_hold (enumeration name ext bits literals) own).0
+  node_keeps (bitmask name bits flags) own below = (rules_hold (bitmask name bits flags) own).0
   node_keeps (sequence bound tc t) own below = from_node t (node_keeps t) (unmapped _ _ (sym (inside_sequence bound tc t) ∙ below))
   node_keeps (array dims tc t) own below = from_node t (node_keeps t) (unmapped _ _ (sym (inside_array dims tc t) ∙ below))
   node_keeps (map_of bound kc k vc v) own below =
       let both = first_none _ _ (sym (inside_map bound kc k vc v) ∙ below) in
       (from_node k (node_keeps k) (unmapped _ _ both.0), from_node v (node_keeps v) (unmapped _ _ both.1))
   node_keeps (structure h ms) own below =
-      let kept = node_holds (structure h ms) own in
+      let kept = rules_hold (structure h ms) own in
       (members_keep ms (sym (inside_structure h ms) ∙ below), kept.0, low_ids (member_ids ms) kept.1.1.0)
   node_keeps (union h disc cs) own below =
       let both = first_none _ _ (sym (inside_union h disc cs) ∙ below) in
-      let kept = node_holds (union h disc cs) own in
+      let kept = rules_hold (union h disc cs) own in
       (from_node disc (node_keeps disc) (unmapped _ _ both.0), cases_keep cs both.1, kept.0, low_ids (case_ids cs) kept.1.1.0)
-  node_keeps (alias name t) own below = (from_node t (node_keeps t) (sym (inside_alias name t) ∙ below), (node_holds (alias name t) own).0)
+  node_keeps (alias name t) own below = (from_node t (node_keeps t) (sym (inside_alias name t) ∙ below), (rules_hold (alias name t) own).0)
 
   members_keep : (ms : Members) → members_fault ms ≡ None → MembersKeepNames ms
   members_keep no_members e = tt
