@@ -1,1 +1,2 @@
 pub mod InBlocks
+pub mod Repeats

@@ -1,8 +1,10 @@
 -- Tests on all labels, case by case, and on a label by the kind of the discriminator.
-use Rattle.std.proofs.Common.{◌≡◌, refl, ap, ◌∙◌, sym, ℕ, ℤ, Some, None, Bool, true, false, ◌==◌, length, rules, tests, ◌&&◌, List, [], ◌∷◌, ◌++◌}
+use Rattle.std.proofs.Common.{◌≡◌, refl, ap, ◌∙◌, sym, ℕ, ℤ, Some, None, Bool, true, false, ◌==◌, length, rules, tests, ◌&&◌, ◌||◌, List, [], ◌∷◌, ◌++◌, map}
 use Rattle.xt_shapes.specs.declared.leaves.Ext.{Ext}
 use Rattle.xt_shapes.specs.declared.leaves.Primitive.{Primitive}
-use Rattle.xt_shapes.specs.Lists.{all}
+use Rattle.std.specs.Ordering.{int_eq}
+use Rattle.distinct_items.specs.InBlocks.{holds_one}
+use Rattle.xt_shapes.specs.Lists.{all, has}
 use Rattle.xt_shapes.specs.Shape.{Literal, Shape, prim, str, enumeration, bitmask, sequence, array, map_of, structure, union}
 use Rattle.xt_shapes.specs.Kinds.{as_enum, as_prim}
 use Rattle.xt_shapes.specs.Select.{is_literal}
@@ -36,6 +38,14 @@ enum_values (union ext key disc cs) parts ls is = absurd (cc)
 all_same : {A : Type 0} (p q : A → Bool) (ls : List A) → ((x : A) → p x ≡ q x) → all p ls ≡ all q ls
 all_same p q [] same = refl
 all_same p q (x ∷ xs) same = rw (same x, all_same p q xs same) refl
+
+mapped_has : {A B : Type 0} (f : A → B) (p : B → Bool) (xs : List A) → has p (map f xs) ≡ has (λ x. p (f x)) xs
+mapped_has f p [] = refl
+mapped_has f p (x ∷ xs) = ap (λ b. p (f x) || b) (mapped_has f p xs)
+
+-- numbers among the values of literals are literals
+pub among_values : (literals : List Literal) (ls : List ℤ) → all (holds_one (map (λ l. l.value) literals)) ls ≡ all (is_literal literals) ls
+among_values literals ls = all_same (holds_one (map (λ l. l.value) literals)) (is_literal literals) ls (λ n. mapped_has (λ l. l.value) (λ held. int_eq held n) literals)
 
 -- those of a primitive that is no float are its numbers
 pub prim_values : (t : Shape) (p : Primitive) (ls : List ℤ) → Some p ≡ as_prim t → true ≡ is_discriminator t → all (of_prim p) ls ≡ all (is_value t) ls

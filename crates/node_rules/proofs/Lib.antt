@@ -4,3 +4,4 @@ pub mod Limits
 pub mod Ranges
 pub mod Labelled
 pub mod Members
+pub mod ListTests

@@ -10,9 +10,14 @@ ghost use Rattle.xt_shapes.specs.NodeRules as node;
 ghost use Rattle.node_rules.specs.Rules as spec;
 
 use crate::kinds::is_discriminator;
-use distinct_items::{Numbers, all_distinct};
+use crate::literals::Values;
+use crate::numbers::{has_literal, is_of_prim};
+use distinct_items::{Numbers, all_among, all_distinct};
 use type_trees::{Case, Literal, XType, as_enum, as_prim};
 use xt_shapes::Prim;
+
+/// Labels are looked for one by one among so many literals.
+const MANY: usize = 64;
 
 /// The labels of a case and then those of further cases.
 #[derive(Clone, Copy)]
@@ -43,38 +48,17 @@ fn labels_apart(cases: &[Case]) -> bool
     all_distinct(Labels { labels: &[], cases })
 }
 
-/// Whether the primitive has that value.
-#[tactic(auto, using(crate::proofs::Ranges::range_rules))]
-fn is_of_prim(prim: Prim, number: i32) -> bool
-    ensures { result ≡ of_prim prim number }
+fn is_label_of(prim: Prim, label: i32) -> bool
+    ensures { result ≡ of_prim prim label }
 {
-    match prim {
-        Prim::Boolean => 0 <= number && number <= 1,
-        Prim::Byte | Prim::Uint8 | Prim::Char8 => 0 <= number && number <= 255,
-        Prim::Int8 => -128 <= number && number <= 127,
-        Prim::Int16 => -32_768 <= number && number <= 32_767,
-        Prim::Uint16 => 0 <= number && number <= 65_535,
-        Prim::Int32 | Prim::Int64 => true,
-        Prim::Uint32 | Prim::Uint64 | Prim::Float32 | Prim::Float64 => 0 <= number,
-    }
-}
-
-fn is_literal(literals: &[Literal], number: i32) -> bool
-    ensures { result ≡ among (map literal_shape literals.now) number }
-{
-    for literal in literals {
-        if literal.value == number {
-            return true;
-        }
-    }
-    false
+    is_of_prim(prim, i128::from(label))
 }
 
 fn all_of_prim(prim: Prim, labels: &[i32]) -> bool
     ensures { result ≡ all (of_prim prim) labels.now }
 {
     for label in labels {
-        if !is_of_prim(prim, *label) {
+        if !is_label_of(prim, *label) {
             return false;
         }
     }
@@ -85,7 +69,7 @@ fn all_literals(literals: &[Literal], labels: &[i32]) -> bool
     ensures { result ≡ all (among (map literal_shape literals.now)) labels.now }
 {
     for label in labels {
-        if !is_literal(literals, *label) {
+        if !has_literal(literals, i128::from(*label)) {
             return false;
         }
     }
@@ -109,7 +93,7 @@ fn are_values(disc: &XType, labels: &[i32]) -> bool
 }
 
 #[tactic(auto, using(type_trees::proofs::Views::tree_rules, crate::proofs::Labelled::all_append))]
-fn labels_are_values(disc: &XType, cases: &[Case]) -> bool
+fn each_is_value(disc: &XType, cases: &[Case]) -> bool
     ensures { result ≡ all (spec.is_value (type_shape disc.now)) (node.labels_of (case_heads (cases_shape cases.now))) }
 {
     for case in cases {
@@ -118,6 +102,23 @@ fn labels_are_values(disc: &XType, cases: &[Case]) -> bool
         }
     }
     true
+}
+
+/// Whether each label is a value of the discriminator. Among many literals the labels are looked for by blocks.
+fn labels_are_values(disc: &XType, cases: &[Case]) -> bool
+    ensures { result ≡ all (spec.is_value (type_shape disc.now)) (node.labels_of (case_heads (cases_shape cases.now))) }
+{
+    match as_enum(disc) {
+        Some(kind) => if kind.literals.len() > MANY {
+            all_among(
+                Labels { labels: &[], cases },
+                Values(kind.literals.as_slice()),
+            )
+        } else {
+            each_is_value(disc, cases)
+        },
+        None => each_is_value(disc, cases),
+    }
 }
 
 /// Whether each case has a label or is the default.

@@ -1,4 +1,4 @@
-//! The rules of valid types at one node of a type. Nothing here takes memory.
+//! The rules of valid types at one node of a type, and which numbers a primitive and an enumeration have. Nothing here takes memory.
 #![tactic(auto)]
 
 mod keys;
@@ -7,11 +7,13 @@ mod labels;
 mod literals;
 mod nodes;
 mod numbered;
+mod numbers;
 mod octets;
 mod weights;
 
 pub use keys::keyable;
 pub use kinds::{is_discriminator, is_map_key};
 pub use nodes::failing_rule;
+pub use numbers::{has_literal, is_of_prim};
 pub use octets::{name_fits, scope_fits};
 pub use weights::is_light;

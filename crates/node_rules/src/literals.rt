@@ -12,7 +12,7 @@ use xt_shapes::Ext;
 
 /// The values of literals.
 #[derive(Clone, Copy)]
-struct Values<'a>(&'a [Literal]);
+pub(crate) struct Values<'a>(pub(crate) &'a [Literal]);
 
 impl Numbers for Values<'_> {
     ghost left = { λ s. map (λ l. l.value) (map literal_shape s.0.now) };

@@ -8,6 +8,3 @@ mod validity;
 pub use depths::first_deep;
 pub use laws::{is_within_limits, shape_keeps_rules};
 pub use validity::{TypeFault, check_nodes, check_type};
-
-#[cfg(test)]
-mod tests;

@@ -72,7 +72,7 @@ pub fn capped_weight(ty: &XType) -> u64
     }
 }
 
-/// How many parts the values of `ty` have at least.
+/// How many parts a value of `ty` has at most where its sequences and maps are empty.
 ///
 /// It is 1 for a primitive, string, enumeration, bitmask, sequence or map; 1 plus the number of elements times the element's
 /// weight for an array; 1 plus the members' weights for a structure; 2 plus the greatest weight of a case for a union; and an

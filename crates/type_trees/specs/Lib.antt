@@ -1,6 +1,8 @@
 pub mod Trees
 pub mod View
 pub mod Hash
+pub mod Ids
+pub mod Paths
 pub mod Bridge
 pub mod Parts
 pub mod Bases

@@ -1,4 +1,4 @@
-ghost use Rattle.std.specs.Prelude.{◌≡◌};
+ghost use Rattle.std.specs.Prelude.{◌≡◌, IfSome, Contains};
 ghost use Rattle.std.specs.Ordering.{int_eq};
 ghost use Rattle.std.specs.Option.{option_map};
 ghost use Rattle.xt_shapes.specs.Lists.{has};
@@ -55,10 +55,12 @@ pub fn select(cases: &[Case], number: i128) -> Option<u32>
     }
 }
 
-/// The case with that id.
+/// The first case with that id.
 #[tactic(auto, using(crate::proofs::Views::tree_rules))]
 pub fn case_at(cases: &[Case], id: u32) -> Option<&Case>
-    ensures { option_map (λ c. type_shape c.now.ty) result ≡ spec.case_at (cases_shape cases.now) id }
+    ensures shape { option_map (λ c. type_shape c.now.ty) result ≡ spec.case_at (cases_shape cases.now) id }
+    ensures id { IfSome result (λ c. c.now.id ≡ id) }
+    ensures among { IfSome result (λ c. Contains cases.now c.now) }
 {
     for case in cases {
         if case.id == id {
@@ -81,10 +83,12 @@ pub fn has_member(members: &[Member], id: u32) -> bool
     false
 }
 
-/// The member with that id.
+/// The first member with that id.
 #[tactic(auto, using(crate::proofs::Views::tree_rules))]
 pub fn member_at(members: &[Member], id: u32) -> Option<&Member>
-    ensures { option_map (λ m. type_shape m.now.ty) result ≡ spec.shape_at (members_shape members.now) id }
+    ensures shape { option_map (λ m. type_shape m.now.ty) result ≡ spec.shape_at (members_shape members.now) id }
+    ensures id { IfSome result (λ m. m.now.id ≡ id) }
+    ensures among { IfSome result (λ m. Contains members.now m.now) }
 {
     for member in members {
         if member.id == id {

@@ -4,6 +4,7 @@
 
 mod cases;
 mod hashes;
+mod ids;
 mod kinds;
 mod names;
 mod path;

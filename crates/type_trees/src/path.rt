@@ -1,7 +1,9 @@
 ghost use Rattle.std.specs.Prelude.{◌≡◌, [], ◌∷◌, ◌++◌, ◌<◌, length, slice_get, Some};
 ghost use Rattle.arrayvec.specs.ArrayVec.{array_vec_len};
+ghost use Rattle.type_trees.specs.Paths.{path_text};
 
 use arrayvec::ArrayVec;
+use std::fmt;
 use std::marker::Model;
 use xt_shapes::Step;
 
@@ -59,5 +61,20 @@ impl Path {
         ensures { self.new ≡ step ∷ self.old }
     {
         self.steps.insert(0, step);
+    }
+}
+
+/// `/` for the whole, else each step behind a `/`.
+impl fmt::Display for Path {
+    ghost output = { λ path. Some (path_text path) };
+
+    fn fmt<W: fmt::Write>(&self, f: &mut fmt::Formatter<W>) -> fmt::Result {
+        if self.steps.is_empty() {
+            return f.write_str("/");
+        }
+        for step in self.steps.as_slice() {
+            write!(f, "/{step}")?;
+        }
+        Ok(())
     }
 }

@@ -166,8 +166,9 @@ pub struct Named {
     pub ty: XType,
 }
 
-/// The equivalence hash of a TypeObject: the kind of the identifier and the first 14 octets of the object's MD5 (7.3.4).
-#[derive(Debug, Clone, Copy, PartialEq, Eq)]
+/// The identifier of a TypeObject: its kind, 0xF1 for a minimal and 0xF2 for a complete object, and its equivalence hash, the first 14
+/// octets of the object's MD5 (7.3.4).
+#[derive(Debug, Clone, Copy, PartialEq, Eq, PartialOrd, Ord, Hash)]
 pub struct HashId {
     pub kind: u8,
     pub hash: [u8; 14],

@@ -1,7 +1,8 @@
 use xt_lists::{Row, Text};
 
 /// A value. A primitive, enumeration or bitmask is an `Int`: a float its raw bits as an unsigned number, a char8 its octet, a
-/// boolean 0 or 1, an enumeration its literal's value, a bitmask the sum of its flags.
+/// boolean 0 or 1, an enumeration its literal's value, a bitmask the number whose set bits are the
+/// positions of its flags.
 #[derive(Debug, Drop)]
 #[cycle(values)]
 pub enum Value {

@@ -4,3 +4,5 @@ pub mod SlotSteps
 pub mod DefaultSteps
 pub mod RisingSteps
 pub mod BaseSteps
+pub mod SortedKeys
+pub mod ListTests

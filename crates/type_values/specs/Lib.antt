@@ -1,2 +1,3 @@
 pub mod BaseTrees
+pub mod KeyLists
 pub mod Rising

@@ -36,7 +36,8 @@ pub fn copy_name(alloc: Global, name: &Name) -> Result<Name, OutOfMemory>
     }
 }
 
-fn copy_plain<T: Copy>(alloc: Global, items: &Row<T>) -> Result<Row<T>, OutOfMemory>
+/// The same items.
+pub fn copy_plain<T: Copy>(alloc: Global, items: &Row<T>) -> Result<Row<T>, OutOfMemory>
 where
     T: Drop,
     ensures { IfOk result (λ copy. copy ≡ items.now) }

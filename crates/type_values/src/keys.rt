@@ -21,17 +21,12 @@ fn same_key(left: &Value, right: &Value) -> bool
 fn has_key(key: &Value, pairs: &[Pair]) -> bool
     ensures { result ≡ has (λ y. spec.same_key (val key.now) y.0) (map pair_val pairs.now) }
 {
-    for pair in pairs {
-        if same_key(key, &pair.key) {
-            return true;
-        }
-    }
-    false
+    pairs.iter().any(|pair| same_key(key, &pair.key))
 }
 
 /// Whether two pairs have one key, by comparing each with those behind it.
 #[tactic(auto, using(type_trees::proofs::Views::val_rules))]
-fn repeats_in_any_order(pairs: &[Pair]) -> bool
+pub(crate) fn repeats_in_any_order(pairs: &[Pair]) -> bool
     ensures { result ≡ spec.repeats (map pair_val pairs.now) }
 {
     for at in 0..pairs.len() {
@@ -69,7 +64,7 @@ fn rises_from(key: &Value, pairs: &[Pair]) -> bool
 
 /// Whether each key goes before the next.
 #[tactic(auto, using(type_trees::proofs::Views::val_rules))]
-fn rises(pairs: &[Pair]) -> bool
+pub(crate) fn rises(pairs: &[Pair]) -> bool
     ensures { result ≡ rising.rises (map pair_val pairs.now) }
 {
     match pairs {

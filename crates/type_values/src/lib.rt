@@ -6,16 +6,16 @@ mod copies;
 mod defaults;
 mod keys;
 mod numbers;
+mod sorted_keys;
 mod typed;
 mod value_copies;
 
 pub use bases::base_of;
-pub use copies::{copy_name, copy_optional_text, copy_text, copy_type};
+pub use copies::{copy_name, copy_optional_text, copy_plain, copy_text, copy_type};
 pub use defaults::default_value;
 pub use keys::repeats;
-pub use numbers::{fits_bits, has_literal, is_of_prim, is_past, is_text_within};
+pub use node_rules::{has_literal, is_of_prim};
+pub use numbers::{fits_bits, is_past, is_text_within};
+pub use sorted_keys::has_same_keys;
 pub use typed::has_type;
 pub use value_copies::copy_value;
-
-#[cfg(test)]
-mod tests;

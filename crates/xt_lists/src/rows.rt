@@ -73,6 +73,14 @@ impl<T> Row<T> {
 }
 
 impl<T: Drop> Row<T> {
+    /// Makes room for `count` items more. The items stay as they are, also where memory is refused.
+    pub fn reserve(&mut self, count: usize) -> Result<(), OutOfMemory>
+        ensures { self.new ≡ self.old }
+    {
+        self.items.reserve(count)?;
+        Ok(())
+    }
+
     /// Appends `item`. Where memory is refused the list is unchanged.
     pub fn push(&mut self, item: T) -> Result<(), OutOfMemory>
         ensures ok { OnOk result (self.new ≡ self.old ++ item ∷ []) }

@@ -12,3 +12,4 @@ pub mod Keyable
 pub mod Worked
 pub mod NodeRules
 pub mod WorkedRules
+pub mod Words

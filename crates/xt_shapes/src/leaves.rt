@@ -1,3 +1,8 @@
+ghost use Rattle.std.specs.Prelude.{Some};
+ghost use Rattle.xt_shapes.specs.Words.{step_text};
+
+use std::fmt;
+
 /// The extensibility of a type: how it may grow (DDS-XTypes 1.3, 7.2.3).
 #[derive(Debug, Clone, Copy, PartialEq, Eq)]
 pub enum Ext {
@@ -63,4 +68,19 @@ pub enum Step {
     Entry,
     /// To the discriminator of a union.
     Disc,
+}
+
+/// A step as it is printed in a path: a member's id in decimal, or `[]`, `key`, `entry`, `disc`.
+impl fmt::Display for Step {
+    ghost output = { λ step. Some (step_text step) };
+
+    fn fmt<W: fmt::Write>(&self, f: &mut fmt::Formatter<W>) -> fmt::Result {
+        match self {
+            Step::Member(id) => write!(f, "{id}"),
+            Step::Element => f.write_str("[]"),
+            Step::Key => f.write_str("key"),
+            Step::Entry => f.write_str("entry"),
+            Step::Disc => f.write_str("disc"),
+        }
+    }
 }

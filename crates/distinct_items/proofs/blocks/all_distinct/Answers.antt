@@ -1,9 +1,14 @@
-use Rattle.std.proofs.Common.{◌∙◌, sym, true, false}
-use Rattle.distinct_items.proofs.Appended.{behind}
+use Rattle.std.proofs.Common.{rules, sym}
+use Rattle.distinct_items.proofs.Appended.{repeated, joined, moved}
 use Rattle.distinct_items.proofs.blocks.all_distinct.Goals as goal
 
-pub returns-then-meets : goal.returns-then-meets
-returns-then-meets g c = sym (behind true c.if-not-fill.ensures c.as_slice.ensures.value c.if-meets.ensures) ∙ c.loop-numbers.invariant
+pub returns-then-is_among : goal.returns-then-is_among
+returns-then-is_among g c =
+    sym (repeated c.loop-turn.block.items (g.N.Numbers.left c.take_first.new.self) c.in-Some.number _ c.loop-turn.invariant.split c.in-Some.ensures c.as_slice.ensures.value c.if-is_among.ensures (search rules))
 
-pub loop-numbers-preserved : goal.loop-numbers-preserved
-loop-numbers-preserved g c = sym (behind false c.if-not-fill.ensures c.as_slice.ensures.value c.if-meets.ensures) ∙ c.loop-numbers.invariant
+pub loop-turn-preserved : goal.loop-turn-preserved
+loop-turn-preserved g c = record {
+  split = moved c.loop-turn.block.items (g.N.Numbers.left c.take_first.new.self) c.in-Some.number _ c.loop-turn.invariant.split c.in-Some.ensures c.push.ensures.items (search rules);
+  apart = joined _ _ c.loop-turn.invariant.apart c.as_slice.ensures.value c.if-is_among.ensures c.push.ensures.items (search rules);
+  len = search rules;
+}

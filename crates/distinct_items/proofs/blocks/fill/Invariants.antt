@@ -1,12 +1,9 @@
-use Rattle.std.proofs.Common.{◌≡◌, ◌++◌, true}
-use Rattle.std.specs.Ordering.{int_eq}
+use Rattle.std.proofs.Common.{◌≡◌, ◌++◌}
 use Rattle.arrayvec.specs.ArrayVec.{array_vec_len}
-use Rattle.xt_shapes.specs.NodeRules.{distinct}
 use Rattle.distinct_items.proofs.blocks.fill.Given as goal
 
 abbrev pub invariant-loop-turn : goal.invariant-loop-turn
 invariant-loop-turn g l = record {
   split : g.N.Numbers.left l.initial.numbers ≡ l.block.items ++ g.N.Numbers.left l.numbers;
-  apart : distinct int_eq l.block.items ≡ true;
   len : array_vec_len l.block ≡ l._turn;
 }
