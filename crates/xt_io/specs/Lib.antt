@@ -7,3 +7,4 @@ pub use Rattle.xt_outside.specs.MemoryDoors
 pub use Rattle.xt_outside.specs.Adapters
 pub mod Fronts
 pub mod Readers
+pub mod Records

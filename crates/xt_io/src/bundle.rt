@@ -5,7 +5,7 @@ ghost use Rattle.std.specs.Io.KnownBytes.{IsAtEnd, ReadConsumes};
 ghost use Rattle.std.specs.Option.{option_map};
 ghost use Rattle.xt_outside.specs.Outside.{HasCause, HasReadCause, KeepsRest, KeepsTold, TakesUpTo};
 ghost use Rattle.xt_outside.specs.declared.records.RecordFault.TheVariants.{ReadFault, Truncated, OutOfMemory};
-ghost use Rattle.xt_outside.specs.Bundles.{bundle};
+ghost use Rattle.xt_outside.specs.Bundles.{bundle, limit_of};
 ghost use Rattle.xt_io.specs.Readers.{Steps, StepsToHead, Ends, CutsPayload, IsTold, PassesPending, Answers, given_by, pending_after, ReadsOn, inside, rest_of, first_fault};
 
 use crate::filling::{fill, pass_payload, read_payload};
@@ -162,6 +162,8 @@ impl<S: Source> BundleReader<S> {
         ensures ended { result ≡ Ok None → IsAtEnd self.new.left }
         ensures fewer { IfOk result (λ found. self.new.may_follow + given_by found ≡ self.old.may_follow) }
         ensures no_memory { IsErrOf result OutOfMemory → self.old.fault ≡ Some OutOfMemory }
+        // A payload is no longer than its kind's may be, also where the source tells no octets.
+        ensures within { IfOk result (λ found. IfSome found (λ head. head.length ≤ limit_of head.kind)) }
         ensures answers { Answers self.old self.new result }
     {
         if let Some(fault) = self.fault {
@@ -214,6 +216,7 @@ impl<S: Source> BundleReader<S> {
         ensures fewer { IfOk result (λ found. self.new.may_follow + given_by found ≡ self.old.may_follow) }
         ensures fault { self.new.fault ≡ None }
         ensures no_memory { ¬ IsErrOf result OutOfMemory }
+        ensures within { IfOk result (λ found. IfSome found (λ head. head.length ≤ limit_of head.kind)) }
         ensures cause { HasReadCause self.old.faults self.new.faults result }
         ensures same { self.new.name ≡ self.old.name }
     {

@@ -3,12 +3,15 @@
 
 mod bundle;
 mod filling;
+mod laws;
 mod record;
 #[cfg(test)]
 mod tests;
 
 pub use bundle::{BundleReader, Pending};
 pub use filling::fill;
+pub use laws::{records_are_a_bundle, records_are_read};
+pub use record::write_record;
 pub use xt_outside::{
     Door, Failed, Head, Item, Kind, Link, MemDoor, MemLink, MemNet, MemSink, MemSource, Net,
     NetFault, ReadSource, RecordFault, Script, Sink, Source, SureLink, SureSink, SureSource,

@@ -1,3 +1,4 @@
 pub mod Giving
 pub mod Doors
 pub mod Examples
+pub mod Joined

@@ -1,5 +1,6 @@
-// A borrowed source or sink is one too.
-ghost use Rattle.std.specs.Prelude.{[], ◌∷◌};
+// A borrowed source, sink or link is one too. It goes by its borrow and by the name of what was lent, so both are known when it is
+// given back.
+ghost use Rattle.std.specs.Prelude.{◌∷◌};
 
 use crate::links::Link;
 use crate::octets::{Failed, Sink, Source};
@@ -9,7 +10,7 @@ impl<S: Source> Source for &mut S {
 
     ghost faults = { λ s. S.faults s.now };
 
-    ghost name = { λ s. s.ghost_name ∷ [] };
+    ghost name = { λ s. s.ghost_name ∷ S.name s.now };
 
     ghost behind = { λ s. S.behind s.now };
 
@@ -23,7 +24,7 @@ impl<K: Sink> Sink for &mut K {
 
     ghost faults = { λ k. K.faults k.now };
 
-    ghost name = { λ k. k.ghost_name ∷ [] };
+    ghost name = { λ k. k.ghost_name ∷ K.name k.now };
 
     fn write(&mut self, from: &[u8]) -> Result<usize, Failed> {
         Sink::write(&mut **self, from)
@@ -39,7 +40,7 @@ impl<L: Link> Link for &mut L {
 
     ghost faults = { λ l. L.faults l.now };
 
-    ghost name = { λ l. l.ghost_name ∷ [] };
+    ghost name = { λ l. l.ghost_name ∷ L.name l.now };
 
     fn read(&mut self, into: &mut [u8]) -> Result<usize, Failed> {
         Link::read(&mut **self, into)

@@ -24,7 +24,7 @@ pub trait Link {
     /// How often it has failed, in both directions together.
     ghost faults: { Self → ℕ };
 
-    /// Which link it stands for: a borrowed one goes by its borrow.
+    /// Which link it stands for: a borrowed one goes by its borrow and the name of what was lent.
     ghost name: { Self → List ℕ } = { λ _. [] };
 
     /// Reads some of the octets to the front of the slice, and answers how many. None into a slice that isn't empty is
@@ -84,7 +84,7 @@ impl From<OutOfMemory> for NetFault {
 
 /// Where links come in.
 pub trait Door: Send + Drop {
-    type L: Link + Drop;
+    type L: Link + Drop + Send;
 
     /// How often it has failed.
     ghost faults: { Self → ℕ };
@@ -112,7 +112,7 @@ pub trait Door: Send + Drop {
         ensures held { AppendsEntry (held self.old) (held_of (Self.L.got link) (Self.L.taken link) (Self.L.left link) (Self.L.faults link)) (held self.new) };
 }
 
-/// The network: its doors and links come with the first command that needs them.
+/// The network, which gives doors on an address and links to one.
 pub trait Net {
     type D: Door;
 

@@ -20,7 +20,7 @@ pub trait Source {
     /// How often it has failed.
     ghost faults: { Self → ℕ };
 
-    /// Which source it stands for: a borrowed one goes by its borrow.
+    /// Which source it stands for: a borrowed one goes by its borrow and the name of what was lent.
     ghost name: { Self → List ℕ } = { λ _. [] };
 
     /// What stands behind its end, where that is told: a payload has the records behind it.
@@ -45,7 +45,7 @@ pub trait Sink {
     /// How often it has failed.
     ghost faults: { Self → ℕ };
 
-    /// Which sink it stands for: a borrowed one goes by its borrow.
+    /// Which sink it stands for: a borrowed one goes by its borrow and the name of what was lent.
     ghost name: { Self → List ℕ } = { λ _. [] };
 
     /// Takes some of the first octets, and answers how many: at least one, where there is one. A failed write takes none.

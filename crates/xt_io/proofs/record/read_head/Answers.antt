@@ -16,12 +16,12 @@ returns-then-branch-lt4-clause-octets g c =
 
 pub returns-then-length-limit-clause-octets : goal.returns-then-length-limit-clause-octets
 returns-then-length-limit-clause-octets g c =
-    let size = c.from_be_bytes-length.ensures in
+    let size = c.length_of-length.ensures in
     reads_known _ _ c.in-Some.kind _ _ _ _ (headed-one _ _ _ _ c.in_ok-fill.ensures.octets (search rules) c.if-branch-lt1.false) (search rules)
     (reads_sized _ _ _ _ _ _ _ _ c.in_ok-fill-2.ensures.octets (search rules) c.if-branch-lt4.false (rw (← size) (sized_too_long _ _ _ _ _ (search rules))))
 
 pub returns-clause-octets : goal.returns-clause-octets
 returns-clause-octets g c =
-    let size = c.from_be_bytes-length.ensures in
+    let size = c.length_of-length.ensures in
     reads_known _ _ c.in-Some.kind _ _ _ _ (headed-one _ _ _ _ c.in_ok-fill.ensures.octets (search rules) c.if-branch-lt1.false) (search rules)
     (reads_sized _ _ _ _ _ _ _ _ c.in_ok-fill-2.ensures.octets (search rules) c.if-branch-lt4.false (rw (← size) (sized_head _ _ _ _ (search rules))))
