@@ -3,7 +3,7 @@ use Rattle.std.proofs.Common.{◌≡◌, ℕ, ◌+◌, ◌==◌, Bool, true, fal
 use Rattle.xt_shapes.specs.declared.leaves.Order.{Order}
 use Rattle.xt_shapes.specs.declared.leaves.Rep.{Rep}
 use Rattle.xt_shapes.specs.declared.leaves.Rep.TheVariants.{Xcdr1, Xcdr2}
-use Rattle.xt_shapes.specs.Shape.{Shape}
+use Rattle.xt_shapes.specs.Shape.{Shape, prim, str, enumeration, bitmask, sequence, array, map_of, structure, union}
 use Rattle.xt_shapes.specs.Typing.{has_type}
 use Rattle.xt_shapes.specs.Vals.{Val}
 use Rattle.xcdr_model.specs.declared.malformed.Fault.{Fault}
@@ -16,9 +16,9 @@ use Rattle.xcdr_model.specs.Keys.{key}
 use Rattle.xcdr_model.specs.Policies.{standard}
 use Rattle.xcdr_model.specs.Premises.{sound}
 use Rattle.xcdr_model.specs.Projection.{Part, got, projected}
-use Rattle.xcdr_model.specs.Reading.{fault_at}
+use Rattle.xcdr_model.specs.Reading.{Spot, fault_at, ◌>>=◌}
 use Rattle.xcdr_model.specs.SampleSpelling.{spells}
-use Rattle.xcdr_model.specs.Samples.{body_read}
+use Rattle.xcdr_model.specs.Samples.{body_read, union_whole}
 use Rattle.xcdr_model.specs.Xcdr1Reading.{read1, read_body1}
 use Rattle.xcdr_model.specs.Xcdr2Reading.{read, read_body}
 use Rattle.xcdr_model.specs.Xcdr2Spelling.{writes}
@@ -43,7 +43,7 @@ use Rattle.shape_laws.proofs.Rules1.{same1, fitted, by_strong1}
 use Rattle.shape_laws.proofs.SampleLaw.{same_ext_of, sample_again}
 use Rattle.shape_laws.proofs.Self.{self}
 use Rattle.shape_laws.proofs.SizeLaw.{size_same, size1_same}
-use Rattle.shape_laws.proofs.Statements.{Cross, CrossInner, CrossKey, CrossSample, CrossTail, ExactlyOne, FixedSpells, Judged, JudgedNested, NodesBound, ProjectionTyped, ReadTyped, RoundTrip, SelfRead, SizeSame}
+use Rattle.shape_laws.proofs.Statements.{Cross, CrossInner, CrossKey, CrossSample, CrossTail, ExactlyOne, FixedSpells, Judged, JudgedNested, NodesBound, ProjectionTyped, ReadTyped, RoundTrip, SelfRead, SizeSame, ValueNodesBound, ValueTyped}
 use Rattle.shape_laws.proofs.Steps.{spot, then_ok, at_end}
 use Rattle.shape_laws.proofs.TopJudge.{to_assignable, from_assignable}
 use Rattle.shape_laws.proofs.Widen.{widen}
@@ -111,6 +111,31 @@ crossing_key q r t t2 v w s s2 k k2 f h e =
 pub crossing_sample : CrossSample
 crossing_sample q r t t2 v s d d2 f k = sample_again r t t2 v s k (same_ext_of q r t t2 (below q r t t2 f)) (λ o b w. crossing q r o t t2 v b d d2 f w)
 
+-- In XCDR1 a value is what was read, whatever is left behind it.
+whole_ok : (c : Bool) (x : Part × Spot) (d : Fault) (y : Part × Spot) → cond c (Ok x) (Err d) ≡ Ok y → x ≡ y
+whole_ok true x d y e = cc
+whole_ok false x d y e = absurd cc
+
+union_whole_ok : (t : Shape) (x y : Part × Spot) → union_whole t x ≡ Ok y → x ≡ y
+union_whole_ok (union e key disc cs) x y f = whole_ok (length x.1.rest == 0) x (record { at = x.1.at; why = Trailing }) y f
+union_whole_ok (prim p) x y f = cc
+union_whole_ok (str bound) x y f = cc
+union_whole_ok (enumeration e bits ls) x y f = cc
+union_whole_ok (bitmask bits fs) x y f = cc
+union_whole_ok (sequence bound tc t) x y f = cc
+union_whole_ok (array dims tc t) x y f = cc
+union_whole_ok (map_of bound kc k vc t) x y f = cc
+union_whole_ok (structure e ms) x y f = cc
+
+value1_ok : (o : Order) (t : Shape) (s : Spot) (y : Part × Spot) → (read1 true o t s >>= λ x. union_whole t x) ≡ Ok y → read1 true o t s ≡ Ok y
+value1_ok o t s y e =
+    let x = bind_ok (read1 true o t s) (λ x. union_whole t x) y e in
+    x.1 ∙ ap (λ (z : Part × Spot). Ok z) (union_whole_ok t x.0 y x.2)
+
+pub bounding_value : ValueNodesBound
+bounding_value Xcdr2 o t s s2 v u h l e = let k = read_costs t h l o s s2 (got v, u) e in omega (arith, k.1, k.2.1)
+bounding_value Xcdr1 o t s s2 v u h l e = let k = (read1_costs t h l o).1 s s2 (got v, u) (value1_ok o t s ((got v, u), s2) e) in omega (arith, k.1, k.2)
+
 pub bounding : NodesBound
 unfolding read_body read_body1
 bounding Xcdr2 o t b v u s l e =
@@ -130,6 +155,10 @@ agrees_under q Xcdr1 t t2 s s2 f = agrees q t t2 s s2 (elim f [ inl e ↦ inl e 
 
 pub typing : ProjectionTyped
 typing q r t t2 v w s s2 k f h e = ap (ok t) (sym (built_sample (projected t t2 v) w e)) ∙ keeps (agrees_under q r t t2 s s2 (below q r t t2 f)) s k v h
+
+pub value_typed : ValueTyped
+value_typed Xcdr2 o t s s2 v u h k l b e = (read_gives t h k l o s s2 (got v, u) b e).1
+value_typed Xcdr1 o t s s2 v u h k l b e = (read1_gives t h k l o true s s2 (got v, u) b (value1_ok o t s ((got v, u), s2) e)).1
 
 pub reading_typed : ReadTyped
 unfolding read_body read_body1

@@ -19,7 +19,7 @@ use Rattle.xcdr_model.specs.Premises.{keys_sound, sound, storable, cases_apart, 
 use Rattle.xcdr_model.specs.Projection.{Part, projected, got}
 use Rattle.xcdr_model.specs.Reading.{Spot, Reading}
 use Rattle.xcdr_model.specs.SampleSpelling.{spells, IsSample}
-use Rattle.xcdr_model.specs.Samples.{sample, body_read, body_outcome, projection, read_sample}
+use Rattle.xcdr_model.specs.Samples.{sample, value_read, body_read, body_outcome, projection, read_sample}
 use Rattle.xcdr_model.specs.Xcdr1Reading.{read1}
 use Rattle.xcdr_model.specs.Xcdr2Reading.{read}
 
@@ -77,7 +77,11 @@ ExactlyOne = (q : Policy) (r : Rep) (t u : Shape) → IsTrue (cases_apart t) →
 abbrev pub JudgedNested : Type 0
 JudgedNested = (q : Policy) (r : Rep) (t u : Shape) → IsTrue (cases_apart t) → (failure q r false t u ≡ None) ↔ Fits q r t u
 
--- What is read has at most its type's weight and 128 nodes for each octet.
+-- A value that is read has at most its type's weight and 128 nodes for each octet that was read.
+abbrev pub ValueNodesBound : Type 0
+ValueNodesBound = (r : Rep) (o : Order) (t : Shape) (s s2 : Spot) (v : Val) (u : Bool) → IsTrue (sound t) → IsTrue (light t) → value_read r o t s ≡ Ok ((got v, u), s2) → nodes v + 128 * length s2.rest ≤ weight t + 128 * length s.rest
+
+-- What is read of a body has at most its type's weight and 128 nodes for each octet.
 abbrev pub NodesBound : Type 0
 NodesBound = (r : Rep) (o : Order) (t : Shape) (b : List ℕ) (v : Val) (u : Bool) → IsTrue (sound t) → IsTrue (light t) → body_read r o t b ≡ Ok (got v, u) → nodes v ≤ weight t + 128 * length b
 
@@ -94,7 +98,11 @@ KeysCross = (q : Policy) (r : Rep) (t t2 : Shape) (v w : Val) → IsTrue (sound 
 abbrev pub ProjectionTyped : Type 0
 ProjectionTyped = (q : Policy) (r : Rep) (t t2 : Shape) (v w : Val) → IsTrue (sound t) → IsTrue (sound t2) → IsTrue (defaults_typed t) → (t ≡ t2) ⊎ Assignable q r t t2 → IsTrue (has_type t2 v) → projection t t2 v ≡ sample w → IsTrue (has_type t w)
 
--- What is read of octets has the reader's type.
+-- A value that is read of octets has the reader's type.
+abbrev pub ValueTyped : Type 0
+ValueTyped = (r : Rep) (o : Order) (t : Shape) (s s2 : Spot) (v : Val) (u : Bool) → IsTrue (sound t) → IsTrue (storable t) → IsTrue (defaults_typed t) → IsTrue (all (λ c. nat_lt c 256) s.rest) → value_read r o t s ≡ Ok ((got v, u), s2) → IsTrue (has_type t v)
+
+-- What is read of a body has the reader's type.
 abbrev pub ReadTyped : Type 0
 ReadTyped = (r : Rep) (o : Order) (t : Shape) (b : List ℕ) (v : Val) (u : Bool) → IsTrue (sound t) → IsTrue (storable t) → IsTrue (defaults_typed t) → IsTrue (all (λ c. nat_lt c 256) b) → body_read r o t b ≡ Ok (got v, u) → IsTrue (has_type t v)
 

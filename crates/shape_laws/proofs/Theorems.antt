@@ -32,12 +32,12 @@ use Rattle.xcdr_model.specs.Xcdr2Reading.{read, read_body}
 use Rattle.xcdr_model.proofs.FromRules.{sound_from, storable_from, apart_from, light_from, defaults_from, keys_from, premises_from, default_typed}
 use Rattle.shape_laws.specs.KeyLaws.{KeyOctetsTell, KeysCross, KeyOctetsBound}
 use Rattle.shape_laws.specs.Premises.{PremisesHold, DefaultTyped}
-use Rattle.shape_laws.specs.Readings.{OneOf, OneReading, BodyIsValue, ReadTyped, SampleTyped, NodesBound, SampleNodesBound}
+use Rattle.shape_laws.specs.Readings.{OneOf, OneReading, BodyIsValue, ValueTyped, ReadTyped, SampleTyped, ValueNodesBound, NodesBound, SampleNodesBound}
 use Rattle.shape_laws.specs.RoundTrips.{SelfRead, FixedSpells, RoundTrip, SampleWritten, SizeSame, SampleSized}
 use Rattle.shape_laws.specs.Soundness.{Cross, CrossSample, CrossTail, CrossInner, CrossKey, ProjectionTyped}
 use Rattle.shape_laws.specs.Verdicts.{Equivalent, Judged, JudgedNested, ExactlyOne}
 use Rattle.shape_laws.proofs.Costs.{bind_ok}
-use Rattle.shape_laws.proofs.Crossing.{test_ok, crossing, crossing_tail, crossing_inner, crossing_key, crossing_sample, reading_self, spelling_fixed, tripping, judging, judging_nested, exactly, bounding, typing, reading_typed, sizing}
+use Rattle.shape_laws.proofs.Crossing.{test_ok, crossing, crossing_tail, crossing_inner, crossing_key, crossing_sample, reading_self, spelling_fixed, tripping, judging, judging_nested, exactly, bounding, bounding_value, typing, reading_typed, value_typed, sizing}
 use Rattle.shape_laws.proofs.GatherTyped.{take_ok}
 use Rattle.shape_laws.proofs.KeyCosts.{top_key_costs}
 use Rattle.shape_laws.proofs.KeyCosts1.{top_key_costs1}
@@ -182,8 +182,14 @@ the_body_is_value Xcdr1 o (array dims tc t) b = same_whole (read1 true o (array 
 the_body_is_value Xcdr1 o (map_of bound kc k vc t) b = same_whole (read1 true o (map_of bound kc k vc t) (record { at = 0; rest = b }))
 the_body_is_value Xcdr1 o (structure e ms) b = same_whole (read1 true o (structure e ms) (record { at = 0; rest = b }))
 
+pub the_value_typed : ValueTyped
+the_value_typed r o t s s2 v u h = value_typed r o t s s2 v u (sound_from t h) (storable_from t h) (defaults_from t h)
+
 pub the_read_typed : ReadTyped
 the_read_typed r o t b v u h = reading_typed r o t b v u (sound_from t h) (storable_from t h) (defaults_from t h)
+
+pub the_value_nodes_bound : ValueNodesBound
+the_value_nodes_bound r o t s s2 v u h = bounding_value r o t s s2 v u (sound_from t h) (light_from t h)
 
 pub the_nodes_bound : NodesBound
 the_nodes_bound r o t b v u h = bounding r o t b v u (sound_from t h) (light_from t h)

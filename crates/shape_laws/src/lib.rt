@@ -4,7 +4,7 @@
 
 ghost use Rattle.shape_laws.specs.KeyLaws.{KeyOctetsTell, KeysCross, KeyOctetsBound};
 ghost use Rattle.shape_laws.specs.Premises.{PremisesHold, DefaultTyped};
-ghost use Rattle.shape_laws.specs.Readings.{OneReading, BodyIsValue, ReadTyped, SampleTyped, NodesBound, SampleNodesBound};
+ghost use Rattle.shape_laws.specs.Readings.{OneReading, BodyIsValue, ValueTyped, ReadTyped, SampleTyped, ValueNodesBound, NodesBound, SampleNodesBound};
 ghost use Rattle.shape_laws.specs.RoundTrips.{SelfRead, FixedSpells, RoundTrip, SampleWritten, SizeSame, SampleSized};
 ghost use Rattle.shape_laws.specs.Soundness.{Cross, CrossSample, CrossTail, CrossInner, CrossKey, ProjectionTyped};
 ghost use Rattle.shape_laws.specs.Verdicts.{Equivalent, Judged, JudgedNested, ExactlyOne};
@@ -109,6 +109,11 @@ pub fn body_is_value()
     ensures { BodyIsValue }
 {}
 
+/// A value that is read at any place of a region has the reader's type.
+pub fn value_typed()
+    ensures { ValueTyped }
+{}
+
 /// What is read of a body has the reader's type.
 pub fn read_typed()
     ensures { ReadTyped }
@@ -117,6 +122,11 @@ pub fn read_typed()
 /// What is read of a sample has the reader's type.
 pub fn sample_typed()
     ensures { SampleTyped }
+{}
+
+/// A value that is read at any place of a region has at most its type's weight and 128 nodes for each octet that was read.
+pub fn value_nodes_bound()
+    ensures { ValueNodesBound }
 {}
 
 /// What is read of a body has at most its type's weight and 128 nodes for each octet.

@@ -13,6 +13,7 @@ pub mod Equivalence
 pub mod Rules
 pub mod Keys
 pub mod Policies
+pub mod Words
 pub mod Failure
 pub mod Assignable
 pub mod KeyOctets

@@ -1,3 +1,8 @@
+ghost use Rattle.std.specs.Prelude.{◌≡◌, Some};
+ghost use Rattle.xcdr_model.specs.Words.{why_text};
+
+use std::fmt;
+
 /// Why a sample is malformed (DDS-XTypes 1.3, 7.4; the list is this profile's own). The first fault in reading order counts.
 #[derive(Debug, Clone, Copy, PartialEq, Eq)]
 pub enum Why {
@@ -32,4 +37,34 @@ pub enum Why {
 pub struct Fault {
     pub at: u64,
     pub why: Why,
+}
+
+impl Why {
+    /// The word that is printed for it.
+    pub fn word(self) -> &'static str
+        ensures { result.now ≡ why_text self }
+    {
+        match self {
+            Why::Encapsulation => "ENCAPSULATION",
+            Why::Short => "SHORT",
+            Why::Boolean => "BOOLEAN",
+            Why::Str => "STRING",
+            Why::Mask => "MASK",
+            Why::Dheader => "DHEADER",
+            Why::MemberSize => "MEMBER_SIZE",
+            Why::LengthRest => "LENGTH_REST",
+            Why::Twice => "TWICE",
+            Why::MemberId => "MEMBER_ID",
+            Why::Parameter => "PARAMETER",
+            Why::Trailing => "TRAILING",
+        }
+    }
+}
+
+impl fmt::Display for Why {
+    ghost output = { λ x. Some (why_text x) };
+
+    fn fmt<W: fmt::Write>(&self, f: &mut fmt::Formatter<W>) -> fmt::Result {
+        f.write_str(self.word())
+    }
 }

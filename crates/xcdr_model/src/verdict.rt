@@ -1,5 +1,8 @@
-ghost use Rattle.std.specs.Prelude.{◌≡◌};
+ghost use Rattle.std.specs.Prelude.{◌≡◌, Some};
 ghost use Rattle.xcdr_model.specs.Policies.{standard};
+ghost use Rattle.xcdr_model.specs.Words.{rule_text};
+
+use std::fmt;
 
 /// A rule of assignability (DDS-XTypes 1.3, 7.2.4.4; the names are this profile's own).
 #[derive(Debug, Clone, Copy, PartialEq, Eq)]
@@ -40,6 +43,42 @@ pub enum Rule {
     Coercion,
     /// The policy ignores bounds, or the reader's bound holds the writer's.
     Bound,
+}
+
+impl Rule {
+    /// The word that is printed for it.
+    pub fn word(self) -> &'static str
+        ensures { result.now ≡ rule_text self }
+    {
+        match self {
+            Rule::Kind => "KIND",
+            Rule::Extensibility => "EXTENSIBILITY",
+            Rule::BitBound => "BIT_BOUND",
+            Rule::LiteralNames => "LITERAL_NAMES",
+            Rule::LiteralSet => "LITERAL_SET",
+            Rule::Dimensions => "DIMENSIONS",
+            Rule::Names => "NAMES",
+            Rule::CommonMember => "COMMON_MEMBER",
+            Rule::MustUnderstand => "MUST_UNDERSTAND",
+            Rule::KeySet => "KEY_SET",
+            Rule::KeyFit => "KEY_FIT",
+            Rule::MemberSet => "MEMBER_SET",
+            Rule::MemberIndex => "MEMBER_INDEX",
+            Rule::Discriminator => "DISCRIMINATOR",
+            Rule::Labels => "LABELS",
+            Rule::NotDelimited => "NOT_DELIMITED",
+            Rule::Coercion => "COERCION",
+            Rule::Bound => "BOUND",
+        }
+    }
+}
+
+impl fmt::Display for Rule {
+    ghost output = { λ x. Some (rule_text x) };
+
+    fn fmt<W: fmt::Write>(&self, f: &mut fmt::Formatter<W>) -> fmt::Result {
+        f.write_str(self.word())
+    }
 }
 
 /// What a reader lets pass where its type and the writer's differ (DDS-XTypes 1.3, 7.6.3.7).
