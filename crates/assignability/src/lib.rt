@@ -19,6 +19,3 @@ pub use equal::equivalent;
 pub use verdict::Verdict;
 pub use verdicts::{judge, judge_under};
 pub use xcdr_model::{Policy, Rule};
-
-#[cfg(test)]
-mod tests;

@@ -1,5 +1,5 @@
 -- One item more.
-use Rattle.std.proofs.Common.{◌≡◌, refl, ap, Bool, true, false, cond, List, [], ◌∷◌, ◌++◌, Option, Some, None, map}
+use Rattle.std.proofs.Common.{◌≡◌, refl, ap, Bool, true, false, cond, ◌||◌, List, [], ◌∷◌, ◌++◌, Option, Some, None, map}
 use Rattle.std.proofs.lemmas.List.{map-append}
 use Rattle.xt_shapes.specs.declared.leaves.Try.{Try}
 use Rattle.xt_shapes.specs.declared.leaves.Try.TheVariants.{Discard, UseDefault, Trim}
@@ -29,6 +29,18 @@ settled_value Trim d (over v) = refl
 settled_value Discard d failed = refl
 settled_value UseDefault d failed = refl
 settled_value Trim d failed = refl
+
+-- a number that came is got by every setting
+pub settled_got : (tc : Try) (d v : Val) → settled tc d (λ v. v) (got v) ≡ Some v
+settled_got Discard d v = refl
+settled_got UseDefault d v = refl
+settled_got Trim d v = refl
+
+pub unseen_still : (a : Bool) → (a || false) ≡ a
+unseen_still true = refl
+unseen_still false = refl
+
+pub ruleset number_rules = (kept_value, settled_got, unseen_still)
 
 pub ruleset item_rules = (kept_value, lost_value, body_val_absent, body_val_present)
 

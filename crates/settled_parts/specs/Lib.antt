@@ -5,4 +5,3 @@ pub mod Items
 pub mod Entries
 pub mod Members
 pub mod Unions
-pub mod Keys

@@ -10,10 +10,10 @@ ghost use Rattle.settled_parts.specs.Gathering.{none_yet};
 ghost use Rattle.settled_parts.specs.Entries.{entries_of, and_entry, and_pair, entries_then, whole_of};
 
 use crate::items::is_room;
-use crate::keys::has_same_keys;
 use crate::part::{Made, Part, Settled, settle_part};
 use std::alloc::Global;
 use type_trees::{MapType, Pair, Slot, Value};
+use type_values::has_same_keys;
 use xt_lists::{OutOfMemory, Row};
 
 /// The entries of a map so far. Once a key or a value failed no entry is kept.

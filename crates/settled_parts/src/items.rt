@@ -1,7 +1,7 @@
 // The items of a sequence or an array, settled as they come.
-ghost use Rattle.std.specs.Prelude.{◌≡◌, ℕ, List, OnOk};
+ghost use Rattle.std.specs.Prelude.{◌≡◌, ℕ, List, OnOk, false};
 ghost use Rattle.xt_shapes.specs.declared.leaves.Try.{Try};
-ghost use Rattle.xt_shapes.specs.Vals.{Val};
+ghost use Rattle.xt_shapes.specs.Vals.{Val, int};
 ghost use Rattle.xcdr_model.specs.Projection as model;
 ghost use Rattle.type_trees.specs.Bridge.{type_shape};
 ghost use Rattle.xt_shapes.specs.Defaults.{default_of};
@@ -24,6 +24,7 @@ pub struct Items {
 }
 
 /// Whether a collection with that bound keeps one more than `count` parts. A bound of 0 is none.
+#[inline(always)]
 pub(crate) fn is_room(bound: u32, count: usize) -> bool
     ensures { result ≡ has_room bound count }
 {
@@ -46,6 +47,7 @@ impl Items {
     }
 
     #[tactic(auto, using(crate::proofs::ItemSteps::item_rules))]
+    #[inline(always)]
     fn keep(&mut self, settled: Settled) -> Result<(), OutOfMemory>
         ensures { OnOk result (items_of self.new ≡ and_settled (items_of self.old) settled) }
     {
@@ -66,6 +68,7 @@ impl Items {
     /// Takes the item that comes next: it is settled by the element's setting, or passed over where as many as the bound are kept.
     /// For an array the bound is 0. Where memory is refused the items are of no use any more.
     #[tactic(auto, using(crate::proofs::ItemSteps::settle_rules))]
+    #[inline(always)]
     pub fn take(
         &mut self,
         alloc: Global,
@@ -86,6 +89,22 @@ impl Items {
         }
         let settled = settle_part(alloc, elem.tc, false, &elem.ty, part)?;
         self.keep(settled)
+    }
+
+    /// Takes a number that comes next, as `take` takes a part that is that number: it is got, whatever the element's setting is.
+    #[tactic(auto, using(type_trees::proofs::Views::val_rules, crate::proofs::ItemSteps::number_rules))]
+    #[inline(always)]
+    pub fn take_number(&mut self, bound: u32, number: i128) -> Result<(), OutOfMemory>
+        ensures { OnOk result ((tc : Try) (d : Val) → items_of self.new ≡ and_item bound tc d (items_of self.old) (model.got (int number), false)) }
+    {
+        if self.failed {
+            return Ok(());
+        }
+        if !is_room(bound, self.values.len()) {
+            self.past = true;
+            return Ok(());
+        }
+        self.values.push(Value::Int(number))
     }
 
     /// The whole: none where an item failed, over where more came than the bound.

@@ -4,8 +4,8 @@
 
 mod entries;
 mod items;
-mod keys;
 mod leaves;
+mod literals;
 mod members;
 mod part;
 mod settling;
@@ -13,7 +13,7 @@ mod unions;
 
 pub use entries::Entries;
 pub use items::Items;
-pub use leaves::{enum_part, text_part};
+pub use leaves::{enum_part, text_from, text_part};
 pub use members::{MemberSlots, Slots, slot_from};
 pub use part::{Made, Part, Settled, outcome, settle_part};
 pub use settling::{Built, Outcome, settle};

@@ -2,8 +2,9 @@
 ghost use Rattle.std.specs.Prelude.{◌≡◌, ◌<◌, ◌||◌, List, Option, [], false, true, length, replicate, map, slice_get, OnOk, IfOk, Some, None, is_some};
 ghost use Rattle.std.specs.Option.{option_map};
 ghost use Rattle.type_trees.specs.Bridge.{type_shape, members_shape, member_head};
-ghost use Rattle.type_trees.specs.View.{body_val};
-ghost use Rattle.settled_parts.specs.Parts.{part_of, settled_of};
+ghost use Rattle.type_trees.specs.View.{val, body_val};
+ghost use Rattle.xt_shapes.specs.Vals.{int, present};
+ghost use Rattle.settled_parts.specs.Parts.{part_of, settled_of, settled_part};
 ghost use Rattle.settled_parts.specs.Members.{built_in, unseen_in, filled_then, slots_of, and_slot, slots_then, parts_by_id, structure_of, slot_or, by_member, and_slot_at, filled_of};
 ghost use Rattle.xcdr_model.specs.Premises.{distinct_members};
 ghost use Rattle.xcdr_model.specs.Projection as model;
@@ -17,6 +18,7 @@ use xt_lists::{OutOfMemory, Row};
 
 /// The slot of a member: what came is settled by the member's setting, and where nothing came it is the default.
 #[tactic(auto, using(type_trees::proofs::Views::val_rules))]
+#[inline(always)]
 pub fn slot_from(alloc: Global, member: &Member, part: Option<Part>) -> Result<Settled, OutOfMemory>
     ensures { IfOk result (λ s. settled_of s ≡ (model.slot_from (member_head member.now) (type_shape member.now.ty) (built_in (option_map part_of part)), unseen_in (option_map part_of part))) }
 {
@@ -53,6 +55,7 @@ impl Slots {
 
     /// Takes the slot of the next member. Where memory is refused the slots are of no use any more.
     #[tactic(auto, using(crate::proofs::MemberSteps::slot_rules))]
+    #[inline(always)]
     pub fn take(&mut self, settled: Settled) -> Result<(), OutOfMemory>
         ensures { OnOk result (slots_of self.new ≡ and_slot (slots_of self.old) (settled_of settled)) }
     {
@@ -67,6 +70,52 @@ impl Slots {
             None => {
                 self.failed = true;
                 Ok(())
+            }
+        }
+    }
+
+    /// Takes a number that came of the next member, which any setting leaves as it is.
+    #[tactic(auto, using(type_trees::proofs::Views::val_rules, crate::proofs::MemberSteps::slot_rules, crate::proofs::ItemSteps::number_rules))]
+    #[inline(always)]
+    pub fn take_number(&mut self, number: i128) -> Result<(), OutOfMemory>
+        ensures { OnOk result (slots_of self.new ≡ and_slot (slots_of self.old) (Some (present (int number)), false)) }
+    {
+        if self.failed {
+            return Ok(());
+        }
+        self.slots.push(Slot::Present(Value::Int(number)))
+    }
+
+    // Takes a value that came of the next member.
+    #[tactic(auto, using(type_trees::proofs::Views::val_rules, crate::proofs::MemberSteps::slot_rules))]
+    #[inline(always)]
+    fn take_value(&mut self, value: Value, unseen: bool) -> Result<(), OutOfMemory>
+        ensures { OnOk result (slots_of self.new ≡ and_slot (slots_of self.old) (Some (present (val value)), unseen)) }
+    {
+        self.unseen = self.unseen || unseen;
+        if self.failed {
+            return Ok(());
+        }
+        self.slots.push(Slot::Present(value))
+    }
+
+    /// Takes what came of the next member, settled by the member's setting. Where memory is refused the slots are of no use any more.
+    #[inline(always)]
+    pub fn take_part(
+        &mut self,
+        alloc: Global,
+        member: &Member,
+        part: Part,
+    ) -> Result<(), OutOfMemory>
+        ensures { OnOk result (slots_of self.new ≡ and_slot (slots_of self.old) (settled_part member.now.tc member.now.optional (type_shape member.now.ty) (part_of part))) }
+    {
+        let Part { made, unseen } = part;
+        match made {
+            Made::Got(value) => self.take_value(value, unseen),
+            made => {
+                let part = Part { made, unseen };
+                let settled = settle_part(alloc, member.tc, member.optional, &member.ty, part)?;
+                self.take(settled)
             }
         }
     }
@@ -96,6 +145,7 @@ impl Slots {
 
 /// A member's slot: its default where it has not come.
 #[tactic(auto, using(type_trees::proofs::Views::val_rules))]
+#[inline(always)]
 fn filled(alloc: Global, slot: Option<Slot>, member: &Member) -> Result<Settled, OutOfMemory>
     ensures { IfOk result (λ s. settled_of s ≡ (Some (slot_or (model.slot_default (member_head member.now) (type_shape member.now.ty)) (option_map body_val slot)), false)) }
 {
@@ -156,6 +206,7 @@ impl MemberSlots {
 
     /// Takes the slot of the member with that index.
     #[tactic(auto, using(crate::proofs::MemberSteps::put_rules))]
+    #[inline(always)]
     pub fn put(&mut self, index: usize, settled: Settled)
         requires { index < length (by_member self.old).1 }
         ensures { by_member self.new ≡ and_slot_at (by_member self.old) index (settled_of settled) }

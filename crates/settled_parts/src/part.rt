@@ -37,6 +37,7 @@ pub struct Settled {
 
 impl Part {
     /// A value, with nothing unseen.
+    #[inline(always)]
     pub fn got(value: Value) -> Part
         ensures { part_of result ≡ (model.got (val value), false) }
     {
@@ -48,6 +49,7 @@ impl Part {
 
     /// The value of a primitive, an enumeration or a bitmask.
     #[tactic(auto, using(type_trees::proofs::Views::val_rules))]
+    #[inline(always)]
     pub fn number(number: i128) -> Part
         ensures { part_of result ≡ (model.got (int number), false) }
     {
@@ -65,6 +67,7 @@ impl Part {
     }
 
     /// The same part; something in it is unseen also where `unseen` says so.
+    #[inline(always)]
     pub fn with_unseen(self, unseen: bool) -> Part
         ensures { part_of result ≡ ((part_of self).0, (part_of self).1 || unseen) }
     {
@@ -75,6 +78,7 @@ impl Part {
     }
 }
 
+#[inline(always)]
 fn built(made: Made) -> Built
     ensures { result ≡ built_from made }
 {
@@ -85,6 +89,7 @@ fn built(made: Made) -> Built
     }
 }
 
+#[inline(always)]
 fn slot(built: Built) -> Option<Slot>
     ensures { result ≡ slot_from_built built }
 {
@@ -97,6 +102,7 @@ fn slot(built: Built) -> Option<Slot>
 
 /// Settles a part that came by the setting of its place, as `settle` does.
 #[tactic(auto, using(type_trees::proofs::Views::val_rules, crate::proofs::PartSteps::part_rules))]
+#[inline(always)]
 pub fn settle_part(
     alloc: Global,
     tc: Try,

@@ -46,6 +46,7 @@ pub(crate) fn default_slot(alloc: Global, optional: bool, ty: &XType) -> Result<
 /// default under UseDefault, and else stays. The default at an optional place is Absent. OutOfMemory comes where memory for the
 /// default is wanting; `built` is dropped.
 #[tactic(auto, using(type_trees::proofs::Views::val_rules))]
+#[inline(always)]
 pub fn settle(
     alloc: Global,
     tc: Try,

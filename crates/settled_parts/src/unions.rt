@@ -9,10 +9,10 @@ ghost use Rattle.settled_parts.specs.Parts.{part_of};
 ghost use Rattle.settled_parts.specs.Items.{value_in};
 ghost use Rattle.settled_parts.specs.Unions.{case_of};
 
+use crate::literals::is_value;
 use crate::part::{Made, Part, settle_part};
 use std::alloc::Global;
 use type_trees::{Case, Slot, UnionValue, Value, XType, as_enum};
-use type_values::has_literal;
 use xt_lists::OutOfMemory;
 
 /// What stands for a union's case.
@@ -32,7 +32,7 @@ pub fn fits_disc(disc: &XType, number: i128) -> bool
     ensures { model.disc_built (type_shape disc.now) number ≡ cond result (model.got (int number)) model.failed }
 {
     match as_enum(disc) {
-        Some(kind) => has_literal(kind.literals.as_slice(), number),
+        Some(kind) => is_value(kind.literals.as_slice(), number),
         None => true,
     }
 }

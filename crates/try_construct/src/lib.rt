@@ -6,8 +6,6 @@ mod found;
 mod kinds;
 mod projected;
 mod projection;
-#[cfg(test)]
-mod tests;
 mod value_parts;
 
 pub use projection::project;

@@ -132,7 +132,7 @@ project_union-returns-in-Some t c =
 
 pub project_case-project_both-requires : goal.project_case-project_both-requires
 project_case-project_both-requires t c =
-    let writer = case_sound (cases_shape c.args.others.now) c.args.id (type_shape c.in-Some-Some.other.now.ty) c.requires.writer c.in-Some-Some.ensures in
+    let writer = case_sound (cases_shape c.args.others.now) c.args.id (type_shape c.in-Some-Some.other.now.ty) c.requires.writer c.in-Some-Some.ensures.shape in
     search rules
 
 pub project_selected-loop-case-preserved : goal.project_selected-loop-case-preserved
