@@ -10,12 +10,12 @@ use Rattle.xcdr_model.specs.declared.malformed.Why.TheVariants as why
 use Rattle.xcdr_model.specs.Reading.{Spot, Reading, ◌>>=◌, step}
 use Rattle.wire_cursor.specs.declared.faults.DecodeFault.{DecodeFault}
 use Rattle.wire_cursor.specs.declared.faults.DecodeFault.TheVariants.{Malformed, ReadFault, OutOfMemory}
-use Rattle.wire_cursor.specs.Standing.{Standing, Stands, Within, room}
-use Rattle.wire_cursor.specs.Decoding.{spot, after, Reads, IsFault, Answers, Decodes, Fails}
+use Rattle.wire_cursor.specs.Standing.{Standing, Stands, Within, StaysInside, room}
+use Rattle.wire_cursor.specs.Decoding.{spot, after, Reads, IsFault, Answers, Decodes}
 use Rattle.wire_cursor.proofs.Ahead.{room_is, along_trans}
 use Rattle.sample_frames.specs.declared.frames.OpenSample.{OpenSample}
 use Rattle.sample_frames.specs.Heads.{Told}
-use Rattle.sample_frames.specs.Frames.{over_region, is_whole, whole_body, body_at, Entered, Ended, Trails}
+use Rattle.sample_frames.specs.Frames.{over_region, is_whole, whole_body, body_at, Entered, Ended, Trails, Stops}
 
 read_ok : {T A : Type 0} (view : T → A) (r : Reading A) (a b : Standing) (xs : List ℕ) (t : T) → Answers view a b xs r (Ok t) → (x : A × Spot) × Reads view a b xs x t × (r ≡ Ok x)
 read_ok view (Ok x) a b xs t d = (x, d, refl)
@@ -46,12 +46,17 @@ body_read {A} f h a b x xs r st en e is =
     let same : f h.0 (record { at = 0; rest = take (length (spot a xs).rest - h.1) (spot a xs).rest }) ≡ r = rw (← en.order, ← entered_spot h a b x xs st en e) is in
     ap (λ (q : Reading A). over_region (spot a xs) (q >>= λ y. is_whole y)) same
 
+-- in the body first, which is in the region
+inside_body : {h : Told} {a b : Standing} {x : OpenSample} (c : Standing) → Stands a → Entered h a b x → StaysInside b c → StaysInside a c
+inside_body c st en q k = omega (arith, q (omega (arith, en.place, en.region_end, en.fits, st.in_region)), en.region_end, en.fits, st.in_region)
+
 -- the value was not read
 pub body_fails : {T S A : Type 0} (view : T → A) (wanted : S → A) (f : Order → Spot → Reading A) (h : Told) (a b c : Standing) (x : OpenSample) (d : DecodeFault) → Stands a → Entered h a b x → Decodes view f b c (Err d) → Decodes wanted (λ o s. body_at f h s) a c (Err d)
 unfolding ◌>>=◌
 body_fails view wanted f h a b c x (Malformed at w) st en r = record {
   within = along_trans en.along r.within;
   later = omega (arith, en.place, r.later);
+  inside = inside_body c st en r.inside;
   cause = tt;
   told = λ xs e.
       let one = read_err view (f b.order (spot b xs)) b c xs at w (r.told xs (en.ahead ∙ e)) in
@@ -60,12 +65,14 @@ body_fails view wanted f h a b c x (Malformed at w) st en r = record {
 body_fails view wanted f h a b c x ReadFault st en r = record {
   within = along_trans en.along r.within;
   later = omega (arith, en.place, r.later);
+  inside = inside_body c st en r.inside;
   cause = omega (arith, en.along.faults, r.cause);
   told = λ xs e. elim (body_at f h (spot a xs)) as (λ q. Answers wanted a c xs q (Err ReadFault)) [ Ok y ↦ tt | Err y ↦ tt ];
 }
 body_fails view wanted f h a b c x OutOfMemory st en r = record {
   within = along_trans en.along r.within;
   later = omega (arith, en.place, r.later);
+  inside = inside_body c st en r.inside;
   cause = tt;
   told = λ xs e. elim (body_at f h (spot a xs)) as (λ q. Answers wanted a c xs q (Err OutOfMemory)) [ Ok y ↦ tt | Err y ↦ tt ];
 }
@@ -85,6 +92,7 @@ body_ends view f h a b c d x t st stc en r l =
     let place : d.place ≡ a.region_end = l.place ∙ en.outer in record {
       within = end_within h a b c d x en r.within l;
       later = omega (arith, place, st.in_region);
+      inside = λ k. omega (arith, place);
       cause = tt;
       told = λ xs e.
           let one = read_ok view (f b.order (spot b xs)) b c xs t (r.told xs (en.ahead ∙ e)) in
@@ -109,6 +117,7 @@ unfolding ◌>>=◌
 body_trails view f h a b c x t st stc en r some = record {
   within = along_trans en.along r.within.along;
   later = omega (arith, en.place, r.later);
+  inside = inside_body c st en r.inside;
   cause = tt;
   told = λ xs e.
       let one = read_ok view (f b.order (spot b xs)) b c xs t (r.told xs (en.ahead ∙ e)) in
@@ -119,14 +128,15 @@ body_trails view f h a b c x t st stc en r some = record {
 }
 
 -- the device failed behind the body
-body_stops : {T A : Type 0} (view : T → A) (f : Order → Spot → Reading A) (h : Told) (a b c d : Standing) (x : OpenSample) (t : T) → Entered h a b x → Decodes view f b c (Ok t) → {k : DecodeFault} → Fails c d k → Decodes view (λ o s. body_at f h s) a d (Err k)
+body_stops : {T A : Type 0} (view : T → A) (f : Order → Spot → Reading A) (h : Told) (a b c d : Standing) (x : OpenSample) (t : T) → Entered h a b x → Decodes view f b c (Ok t) → {k : DecodeFault} → Stops x c d k → Decodes view (λ o s. body_at f h s) a d (Err k)
 body_stops view f h a b c d x t en r l = rw l.fault (record {
   within = along_trans en.along (along_trans r.within.along l.along);
   later = omega (arith, en.place, r.later, l.later);
+  inside = λ k. omega (arith, l.inside, en.outer);
   cause = omega (arith, en.along.faults, r.within.along.faults, l.rose);
   told = λ xs e. elim (body_at f h (spot a xs)) as (λ q. Answers view a d xs q (Err ReadFault)) [ Ok y ↦ tt | Err y ↦ tt ];
 })
 
-pub body_unended : {T A : Type 0} (view : T → A) (f : Order → Spot → Reading A) (h : Told) (a b c d : Standing) (x : OpenSample) (t : T) (k : DecodeFault) → Stands a → Stands c → Entered h a b x → Decodes view f b c (Ok t) → (Trails c d k ⊎ Fails c d k) → Decodes view (λ o s. body_at f h s) a d (Err k)
+pub body_unended : {T A : Type 0} (view : T → A) (f : Order → Spot → Reading A) (h : Told) (a b c d : Standing) (x : OpenSample) (t : T) (k : DecodeFault) → Stands a → Stands c → Entered h a b x → Decodes view f b c (Ok t) → (Trails c d k ⊎ Stops x c d k) → Decodes view (λ o s. body_at f h s) a d (Err k)
 body_unended view f h a b c d x t k st stc en r (inl l) = rw (l.fault, l.same) (body_trails view f h a b c x t st stc en r l.some)
 body_unended view f h a b c d x t k st stc en r (inr l) = body_stops view f h a b c d x t en r l

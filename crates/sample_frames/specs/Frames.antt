@@ -8,10 +8,11 @@ use Rattle.xt_shapes.specs.declared.leaves.Rep.{Rep}
 use Rattle.xcdr_model.specs.declared.malformed.Fault.{Fault}
 use Rattle.xcdr_model.specs.declared.malformed.Why.TheVariants.{Trailing}
 use Rattle.xcdr_model.specs.Reading.{Spot, Reading, fault_at, ◌>>=◌, step}
+use Rattle.xt_outside.specs.Outside.{Rose}
 use Rattle.wire_cursor.specs.declared.faults.DecodeFault.{DecodeFault}
-use Rattle.wire_cursor.specs.declared.faults.DecodeFault.TheVariants.{Malformed}
+use Rattle.wire_cursor.specs.declared.faults.DecodeFault.TheVariants.{Malformed, ReadFault}
 use Rattle.wire_cursor.specs.Standing.{Standing, Stands, Along, room}
-use Rattle.wire_cursor.specs.Decoding.{Decodes, Fails}
+use Rattle.wire_cursor.specs.Decoding.{Decodes}
 use Rattle.sample_frames.specs.declared.frames.OpenSample.{OpenSample}
 use Rattle.sample_frames.specs.declared.heads.Head.{Head}
 use Rattle.sample_frames.specs.Heads.{Told, head_view, head_at}
@@ -84,6 +85,14 @@ pub record Trails (a b : Standing) (d : DecodeFault) : Type 0 where
   pub some : a.place < a.region_end
   pub fault : d ≡ Malformed a.place Trailing
 
+-- the device failed in the padding
+pub record Stops (x : OpenSample) (a b : Standing) (d : DecodeFault) : Type 0 where
+  pub along : Along a b
+  pub later : a.place ≤ b.place
+  pub inside : b.place ≤ x.outer.end
+  pub fault : d ≡ ReadFault
+  pub rose : Rose a.faults b.faults
+
 abbrev pub Ends : OpenSample → Standing → Standing → Result (Unit {0}) DecodeFault → Type 0
 Ends x a b (Ok u) = Ended x a b
-Ends x a b (Err d) = Trails a b d ⊎ Fails a b d
+Ends x a b (Err d) = Trails a b d ⊎ Stops x a b d

@@ -1,7 +1,6 @@
 // The four octets of the encapsulation.
 ghost use Rattle.std.specs.Prelude.{◌≡◌, ◌≤◌, IfOk};
 ghost use Rattle.std.specs.Option.{option_map};
-ghost use Rattle.type_trees.specs.Bridge.{type_shape};
 ghost use Rattle.xcdr_model.specs.Samples as spec;
 ghost use Rattle.wire_cursor.specs.Standing.{room};
 ghost use Rattle.wire_cursor.specs.Decoding.{Decodes};
@@ -9,29 +8,9 @@ ghost use Rattle.sample_frames.specs.Heads.{head_view, head_told, head_at};
 ghost use Rattle.wire_cursor.specs.declared.faults.DecodeFault.TheVariants.{Malformed};
 ghost use Rattle.xcdr_model.specs.declared.malformed.Why.TheVariants.{Encapsulation};
 
-use type_trees::XType;
 use wire_cursor::{Cursor, DecodeFault, read_octets};
 use xcdr_model::Why;
 use xt_shapes::{Ext, Order, Rep};
-
-/// The extensibility of a structure or union behind aliases, which a sample's identifier tells; FINAL for any other type.
-#[tactic(auto, using(type_trees::proofs::Views::tree_rules))]
-pub fn top_of(ty: &XType) -> Ext
-    ensures { result ≡ spec.top_ext (type_shape ty.now) }
-{
-    match ty {
-        XType::Struct(kind) => kind.ext,
-        XType::Union(kind) => kind.ext,
-        XType::Alias(kind) => top_of(&kind.ty),
-        XType::Prim(_)
-        | XType::Str(_)
-        | XType::Enum(_)
-        | XType::Mask(_)
-        | XType::Seq(_)
-        | XType::Array(_)
-        | XType::Map(_) => Ext::Final,
-    }
-}
 
 /// What the encapsulation says: the order of the body's numbers, and how many octets of padding end the sample.
 #[derive(Clone, Copy, Debug)]

@@ -6,4 +6,4 @@ mod frames;
 mod heads;
 
 pub use frames::{OpenSample, close_sample, open_sample};
-pub use heads::{Head, top_of};
+pub use heads::Head;

@@ -1,8 +1,15 @@
 -- A block that numbers are added to.
-use Rattle.std.proofs.Common.{◌≡◌, refl, sym, ap, ◌∙◌, ℕ, ◌+◌, ◌-◌, ◌≤◌, ◌<◌, List, [], ◌++◌, length, take, drop, arith, length-append, min}
+use Rattle.std.proofs.Common.{◌≡◌, refl, sym, ap, ◌∙◌, ℕ, ◌+◌, ◌≤◌, List, ◌++◌, length, take, drop, arith, length-append}
+use Rattle.xt_shapes.specs.declared.leaves.Order.{Order}
+use Rattle.xt_shapes.specs.declared.leaves.Order.TheVariants.{Big, Little}
+use Rattle.xcdr_model.specs.Numbers.{octets, low_octets}
 use Rattle.std.proofs.Math.Seq.{take-append-add}
 use Rattle.std.proofs.lemmas.List.{take-append-drop, take-append-le, length-take-le}
 use Rattle.std.proofs.lemmas.Slice.{take-put_mid}
+use Rattle.std.specs.Int.{bytes_low_first}
+use Rattle.wire_numbers.specs.Units.{IsUnit}
+use Rattle.wire_numbers.proofs.UnitSteps.{unit_small}
+use Rattle.wire_writer.proofs.NumberSteps.{low_front}
 use borrow.Rule.Slice.PartMut.{put_mid}
 
 pub number_added : (count size k : ℕ) (xs ys : List ℕ) → size ≤ 16 → count ≤ length xs → length ys ≡ 16 → take (count + size) (put_mid count k xs ys) ≡ take count xs ++ take size ys
@@ -17,3 +24,15 @@ number_added count size k xs ys small within long =
     ∙ ap (λ (l : List ℕ). take (count + size) l) front
     ∙ ap (λ (n : ℕ). take (n + size) (take count xs ++ ys)) (sym len)
     ∙ take-append-add (take count xs) ys size
+
+-- one octet is the same in both orders
+pub one_octet : (o : Order) (n : ℕ) → octets o 1 n ≡ low_octets 1 n
+unfolding octets
+one_octet Little n = refl
+one_octet Big n = refl
+
+-- the low octets of a number that was written with sixteen
+pub low_part : (size n : ℕ) (ys rest : List ℕ) → IsUnit size → ys ≡ bytes_low_first 0 16 n ++ rest → take size ys ≡ low_octets size n
+low_part size n ys rest is e =
+    let few : size ≤ length (bytes_low_first 0 16 n) = omega (arith, unit_small size is) in
+    ap (λ (l : List ℕ). take size l) e ∙ take-append-le size (bytes_low_first 0 16 n) rest few ∙ low_front size n is

@@ -1,14 +1,15 @@
 -- Lists of numbers of one size.
-use Rattle.std.proofs.Common.{◌≡◌, refl, sym, ap, ◌∙◌, subst, ℕ, zero, suc, ◌+◌, ◌-◌, ◌*◌, ◌%◌, ◌≤◌, ◌<◌, ◌==◌, cond, List, [], ◌∷◌, ◌++◌, length, replicate, min, arith, inl, inr, append_assoc, length-append, add-zero, tests, true, false, map}
+use Rattle.std.proofs.Common.{◌≡◌, refl, sym, ap, ◌∙◌, subst, ℕ, suc, ◌+◌, ◌*◌, ◌==◌, List, [], ◌∷◌, ◌++◌, length, replicate, min, arith, inl, inr, append_assoc, length-append, add-zero, tests, true, false, map}
 use Rattle.std.proofs.lemmas.List.{length-replicate}
 use Rattle.std.proofs.lemmas.Nat.{rows}
 use Rattle.xt_shapes.specs.declared.leaves.Order.{Order}
 use Rattle.xt_shapes.specs.Vals.{Val, number_in}
 use Rattle.type_trees.specs.declared.values.Value.{Value}
 use Rattle.type_trees.specs.View.{val}
-use Rattle.xcdr_model.specs.FixedSpelling.{Fixed, number_fixed, then_fixed, each_fixed}
+use Rattle.xcdr_model.specs.FixedSpelling.{number_fixed, then_fixed}
 use Rattle.xcdr_model.specs.Numbers.{octets, padding, raw}
-use Rattle.wire_writer.specs.Writing.{IsUnit, padding_fixed}
+use Rattle.wire_numbers.specs.Units.{IsUnit}
+use Rattle.wire_writer.specs.Writing.{padding_fixed}
 use Rattle.wire_writer.proofs.NumberSteps.{length-octets}
 use Rattle.value_writer.specs.Places.{end_of, run_end}
 use Rattle.value_writer.specs.Runs.{run_fixed, digits_of}
@@ -82,18 +83,18 @@ run_parts m o k v vs p is_m is_k =
     let next : padding u (p + length (zeros ++ xs)) ≡ 0 = ap (λ (n : ℕ). padding u n) there ∙ stays u (p + padding u p) d.times d.unit (padded u p d.unit) in
     ap (λ (l : List ℕ). (zeros ++ xs) ++ l) (aligned m o k vs (p + length (zeros ++ xs)) is_m is_k next) ∙ append_assoc zeros xs (digits_of o k vs)
 
-run_more : (m k n p : ℕ) → min 2097152 (p + (padding (min k m) p + k * suc n)) ≡ run_end m k (suc n) p
+run_more : (m k n p : ℕ) → min 4294967296 (p + (padding (min k m) p + k * suc n)) ≡ run_end m k (suc n) p
 run_more m k n p = grind (arith, tests)
 
 pub end_of_run : (m : ℕ) (o : Order) (k : ℕ) (vs : List Val) (p : ℕ) → IsUnit m → IsUnit k → end_of (run_fixed m o k vs) p ≡ run_end m k (length vs) p
 unfolding end_of then_fixed
-end_of_run m o k [] p is_m is_k = ap (λ (n : ℕ). min 2097152 n) (add-zero p)
+end_of_run m o k [] p is_m is_k = ap (λ (n : ℕ). min 4294967296 n) (add-zero p)
 end_of_run m o k (v ∷ vs) p is_m is_k =
     let zeros = replicate {A = ℕ} (padding (min k m) p) 0 in
     let xs = digits_of o k (v ∷ vs) in
     let len : length (zeros ++ xs) ≡ padding (min k m) p + k * suc (length vs) = omega (arith, length-append zeros xs, length-replicate {A = ℕ} (padding (min k m) p) 0, length-digits o k (v ∷ vs)) in
-    ap (λ (l : List ℕ). min 2097152 (p + length l)) (run_parts m o k v vs p is_m is_k)
-    ∙ ap (λ (n : ℕ). min 2097152 (p + n)) len
+    ap (λ (l : List ℕ). min 4294967296 (p + length l)) (run_parts m o k v vs p is_m is_k)
+    ∙ ap (λ (n : ℕ). min 4294967296 (p + n)) len
     ∙ run_more m k (length vs) p
 
 -- ---- numbers through a block

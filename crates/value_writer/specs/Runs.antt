@@ -1,5 +1,5 @@
 -- Numbers one after another (DDS-XTypes 1.3, 7.4): in a list of numbers of one size only the first is padded.
-use Rattle.std.specs.Prelude.{ℕ, ℤ, List, [], ◌∷◌, ◌++◌}
+use Rattle.std.specs.Prelude.{ℕ, List, [], ◌∷◌, ◌++◌}
 use Rattle.xt_shapes.specs.declared.leaves.Order.{Order}
 use Rattle.xt_shapes.specs.Vals.{Val, number_in}
 use Rattle.xcdr_model.specs.FixedSpelling.{Fixed, number_fixed, each_fixed}

@@ -1,10 +1,14 @@
 //! A block of octets on the stack.
 ghost use Rattle.std.specs.Prelude.{◌≡◌, ◌≤◌, ◌++◌, [], length, nat_lt, take};
+ghost use Rattle.xcdr_model.specs.Numbers.{octets, low_octets};
+ghost use Rattle.wire_numbers.specs.Units.{IsUnit};
 ghost use Rattle.value_writer.specs.Flushing.{Flushes};
 
+use byteorder::{ByteOrder, LittleEndian};
 use std::marker::Model;
-use wire_writer::Writer;
+use wire_writer::{Writer, octets_of};
 use xt_outside::{Failed, Sink};
+use xt_shapes::Order;
 
 const SIZE: usize = 512;
 
@@ -43,7 +47,7 @@ impl Block {
     }
 
     /// Appends the first `size` of these octets.
-    pub(crate) fn add(&mut self, size: u32, octets: &[u8; 16])
+    fn add(&mut self, size: u32, octets: &[u8; 16])
         requires size { size ≤ 16 }
         requires room { length self.old ≤ 496 }
         ensures { self.new ≡ self.old ++ take size octets.now }
@@ -52,6 +56,34 @@ impl Block {
         self.count += size as usize;
     }
 
+    /// Appends the low `size` octets of a number, the lowest first: all sixteen are written at once, and those behind are written over.
+    #[inline(always)]
+    fn add_low(&mut self, size: u32, number: u128)
+        requires size { IsUnit size }
+        requires room { length self.old ≤ 496 }
+        ensures { self.new ≡ self.old ++ low_octets size number }
+    {
+        LittleEndian::write_u128(&mut self.octets[self.count..self.count + 16], number);
+        self.count += size as usize;
+    }
+
+    /// Appends the low `size` octets of a number in the order. `size` is 1, 2, 4 or 8.
+    #[inline(always)]
+    pub(crate) fn add_number(&mut self, order: Order, size: u32, number: u128)
+        requires size { IsUnit size }
+        requires room { length self.old ≤ 496 }
+        ensures { self.new ≡ self.old ++ octets order size number }
+    {
+        if size == 1 {
+            return self.add_low(1, number);
+        }
+        match order {
+            Order::Little => self.add_low(size, number),
+            Order::Big => self.add(size, &octets_of(order, size, number)),
+        }
+    }
+
+    #[inline(always)]
     fn has_room(&self) -> bool
         ensures { result ≡ nat_lt (length self.now) 497 }
     {
@@ -66,6 +98,7 @@ impl Block {
 }
 
 /// Writes the block and clears it, where it might not have room for another number.
+#[inline(always)]
 pub(crate) fn make_room<K: Sink>(block: &mut Block, out: &mut Writer<K>) -> Result<(), Failed>
     ensures { Flushes block.old block.new out.old out.new result }
 {

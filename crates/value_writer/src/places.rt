@@ -1,24 +1,17 @@
 //! Where octets end that are written from a place on, without writing them.
 ghost use Rattle.std.specs.Prelude.{◌≡◌, ◌<◌, ◌+◌, min};
-ghost use Rattle.xcdr_model.specs.Numbers.{padding};
-ghost use Rattle.wire_writer.specs.Writing.{IsUnit};
+ghost use Rattle.wire_numbers.specs.Units.{IsUnit};
 ghost use Rattle.value_writer.specs.Places.{number_end, run_end};
 
-/// A place past the end of every sample, which ends at 1,048,576 at most. Each end that is this far or farther is answered as this.
-pub const TOO_FAR: u64 = 2_097_152;
+use wire_numbers::padding;
 
-fn pad(unit: u32, place: u64) -> u64
-    requires { IsUnit unit }
-    ensures octets { result ≡ padding unit place }
-    ensures few { result < 8 }
-{
-    let unit = u64::from(unit);
-    (unit - place % unit) % unit
-}
+/// A place past the end of every sample, and of all whose octets a count of 32 bits can count. Each end that is this far or farther is
+/// answered as this.
+pub const TOO_FAR: u64 = 4_294_967_296;
 
 /// The end of `count` octets.
 pub fn end_of_octets(count: usize, place: u64) -> u64
-    ensures { result ≡ min 2097152 (place + count) }
+    ensures { result ≡ min 4294967296 (place + count) }
 {
     place.saturating_add(count as u64).min(TOO_FAR)
 }
@@ -30,7 +23,7 @@ pub fn end_of_number(most: u32, size: u32, place: u64) -> u64
     ensures { result ≡ number_end most size place }
 {
     place
-        .saturating_add(pad(size.min(most), place) + u64::from(size))
+        .saturating_add(padding(size.min(most), place) + u64::from(size))
         .min(TOO_FAR)
 }
 
@@ -45,7 +38,7 @@ pub fn end_of_run(most: u32, size: u32, count: usize, place: u64) -> u64
     }
     let octets = u64::from(size).saturating_mul(count as u64);
     place
-        .saturating_add(pad(size.min(most), place))
+        .saturating_add(padding(size.min(most), place))
         .saturating_add(octets)
         .min(TOO_FAR)
 }

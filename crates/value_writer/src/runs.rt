@@ -1,13 +1,14 @@
 //! Lists of numbers, gathered into blocks so that a sink is called once a block.
-ghost use Rattle.std.specs.Prelude.{◌≡◌, ◌≤◌, ◌++◌, [], length, map, nat_lt, take};
+ghost use Rattle.std.specs.Prelude.{◌≡◌, map};
 ghost use Rattle.type_trees.specs.View.{val};
-ghost use Rattle.wire_writer.specs.Writing.{Puts, IsUnit};
+ghost use Rattle.wire_numbers.specs.Units.{IsUnit};
+ghost use Rattle.wire_writer.specs.Writing.{Puts};
 ghost use Rattle.value_writer.specs.Runs.{run_fixed, digits_of};
 
 use crate::block::{Block, make_room};
 use crate::values::number_in;
 use type_trees::Value;
-use wire_writer::{Writer, octets_of, raw};
+use wire_writer::{Writer, raw};
 use xt_outside::{Failed, Sink};
 
 fn put_digits<K: Sink>(size: u32, values: &[Value], out: &mut Writer<K>) -> Result<(), Failed>
@@ -18,7 +19,7 @@ fn put_digits<K: Sink>(size: u32, values: &[Value], out: &mut Writer<K>) -> Resu
     let mut block = Block::new();
     for value in values {
         make_room(&mut block, out)?;
-        block.add(size, &octets_of(order, size, raw(size, number_in(value))));
+        block.add_number(order, size, raw(size, number_in(value)));
     }
     out.put(block.octets())
 }

@@ -10,6 +10,7 @@ use type_trees::{Pair, Slot, Value};
 
 /// The number, or 0.
 #[tactic(auto, using(type_trees::proofs::Views::val_rules))]
+#[inline(always)]
 pub fn number_in(value: &Value) -> i128
     ensures { result ≡ spec.number_in (val value.now) }
 {

@@ -13,15 +13,15 @@ use Rattle.xcdr_model.specs.declared.malformed.Why.{Why}
 use Rattle.xcdr_model.specs.declared.malformed.Why.TheVariants as why
 use Rattle.wire_cursor.specs.declared.faults.DecodeFault.{DecodeFault}
 use Rattle.wire_cursor.specs.declared.faults.DecodeFault.TheVariants.{Malformed, ReadFault, OutOfMemory}
-use Rattle.xcdr_model.specs.Numbers.{padding, number}
+use Rattle.xcdr_model.specs.Numbers.{padding}
 use Rattle.xcdr_model.specs.declared.malformed.Fault.{Fault}
 use Rattle.xcdr_model.specs.Reading.{Spot, Reading, fault_at, ◌>>=◌, step, number_at, octets_at, front, passing, filling, dheader}
-use Rattle.wire_cursor.specs.Standing.{Standing, Stands, Along, Within, Moved, Entered, GoesOn, Gives, room}
+use Rattle.wire_cursor.specs.Standing.{Standing, Stands, Along, Within, StaysInside, Moved, Entered, GoesOn, Gives, room}
 use Rattle.wire_cursor.specs.Decoding.{spot, after, Reads, IsFault, Answers, Decodes, Fails, Left}
-use Rattle.wire_cursor.specs.Steps.{going, align_at, pass_at, placed_at, cut_result}
+use Rattle.wire_cursor.specs.Steps.{going, align_at, pass_at, digits_at, placed_at, cut_result}
 
 -- what was read, from an answer
-reads_ok : {T A : Type 0} (view : T → A) (r : Reading A) (a b : Standing) (xs : List ℕ) (t : T) → Answers view a b xs r (Ok t) → (x : A × Spot) × Reads view a b xs x t × (r ≡ Ok x)
+pub reads_ok : {T A : Type 0} (view : T → A) (r : Reading A) (a b : Standing) (xs : List ℕ) (t : T) → Answers view a b xs r (Ok t) → (x : A × Spot) × Reads view a b xs x t × (r ≡ Ok x)
 reads_ok view (Ok x) a b xs t d = (x, d, refl)
 reads_ok view (Err f) a b xs t d = absurd d
 
@@ -48,6 +48,14 @@ along_trans p q = record { whole = q.whole ∙ p.whole; name = q.name ∙ p.name
 pub within_trans : {a b c : Standing} → Within a b → Within b c → Within a c
 within_trans p q = record { along = along_trans p.along q.along; region_end = q.region_end ∙ p.region_end; origin = q.origin ∙ p.origin; order = q.order ∙ p.order }
 
+-- in the region first, and then from there on
+pub inside_trans : {a b : Standing} (c : Standing) → Within a b → StaysInside a b → StaysInside b c → StaysInside a c
+inside_trans c w p q h = omega (arith, q (omega (arith, p h, w.region_end)), w.region_end)
+
+-- in a region that was entered
+pub inside_entered : {n : ℕ} {a b : Standing} {outer : Outer} (c : Standing) → Entered n a b outer → StaysInside b c → StaysInside a c
+inside_entered c en q h = omega (arith, q (omega (arith, en.place, en.region_end)), en.place, en.region_end, en.fits)
+
 pub within_refl : (a : Standing) → Within a a
 within_refl a = record { along = record { whole = refl; name = refl; faults = omega arith }; region_end = refl; origin = refl; order = refl }
 
@@ -67,31 +75,34 @@ moved_spot {n} {a} {b} xs st m =
 
 -- ---- a cursor's own calls
 
-pub decodes_going : {T A : Type 0} (view : T → A) (n : Spot → ℕ) (q : Spot → ℕ) (x : Spot → A) {m p : ℕ} {a b : Standing} {r : Result T CutFault} → Stands a → GoesOn m p a b r
+pub decodes_going : {T A : Type 0} (view : T → A) (n : Spot → ℕ) (q : Spot → ℕ) (x : Spot → A) {m p : ℕ} {a b : Standing} {r : Result T CutFault} → Stands a → Stands b → GoesOn m p a b r
     → ((xs : List ℕ) → a.ahead ≡ Some xs → (n (spot a xs) ≡ m) × (p ≡ a.origin + q (spot a xs)))
     → ((t : T) (xs : List ℕ) → r ≡ Ok t → a.ahead ≡ Some xs → view t ≡ x (spot a xs))
     → Decodes view (λ o s. going (n s) (q s) (x s) s) a b (cut_result r)
-decodes_going view n q x {m} {p} {a} {b} {r = Ok t} st g here value = record {
+decodes_going view n q x {m} {p} {a} {b} {r = Ok t} st st2 g here value = record {
   within = g.within;
   later = omega (arith, g.place);
+  inside = λ h. omega (arith, g.place, g.fits);
   cause = tt;
   told = λ xs e.
       let (same, place) = here xs e in
       let long : nat_lt (length (take (room a) xs)) (n (spot a xs)) ≡ false = le-ltb _ _ (omega (arith, room_is xs st e, g.fits, same)) in
       rw (long, same) (record { value = value t xs refl e; ahead = moved_ahead xs g e; spot = moved_spot xs st g });
 }
-decodes_going view n q x {m} {p} {a} {b} {r = Err (cut.Short said)} st g here value = record {
+decodes_going view n q x {m} {p} {a} {b} {r = Err (cut.Short said)} st st2 g here value = record {
   within = g.stayed.within.along;
   later = omega (arith, g.stayed.place);
+  inside = λ h. omega (arith, g.stayed.place);
   cause = tt;
   told = λ xs e.
       let (same, place) = here xs e in
       let short : nat_lt (length (take (room a) xs)) (n (spot a xs)) ≡ true = lt-ltb _ _ (omega (arith, room_is xs st e, g.lacks, same)) in
       rw short (record { at = g.at ∙ place; why = refl });
 }
-decodes_going view n q x {m} {p} {a} {b} {r = Err cut.Fault} st g here value = record {
+decodes_going view n q x {m} {p} {a} {b} {r = Err cut.Fault} st st2 g here value = record {
   within = g.1.within.along;
   later = g.1.later;
+  inside = λ h. omega (arith, st2.in_region, g.1.within.region_end);
   cause = g.1.rose;
   told = λ xs e.
       let (same, place) = here xs e in
@@ -99,13 +110,13 @@ decodes_going view n q x {m} {p} {a} {b} {r = Err cut.Fault} st g here value = r
       rw long tt;
 }
 
-pub decodes_align : {T : Type 0} (view : T → Unit {0}) (m : ℕ) (a b : Standing) (r : Result T CutFault) → Stands a → GoesOn (padding m (a.place - a.origin)) a.region_end a b r → Decodes view (align_at m) a b (cut_result r)
-decodes_align view m a b r st g = decodes_going view (λ s. padding m s.at) (λ s. s.at + length s.rest) (λ s. tt) st g
+pub decodes_align : {T : Type 0} (view : T → Unit {0}) (m : ℕ) (a b : Standing) (r : Result T CutFault) → Stands a → Stands b → GoesOn (padding m (a.place - a.origin)) a.region_end a b r → Decodes view (align_at m) a b (cut_result r)
+decodes_align view m a b r st st2 g = decodes_going view (λ s. padding m s.at) (λ s. s.at + length s.rest) (λ s. tt) st st2 g
     (λ xs e. (refl, omega (arith, room_is xs st e, st.in_region, st.from_origin)))
     (λ t xs is e. refl)
 
-pub decodes_pass : {T : Type 0} (view : T → Unit {0}) (n : ℕ) (a b : Standing) (r : Result T CutFault) → Stands a → GoesOn n a.place a b r → Decodes view (pass_at n) a b (cut_result r)
-decodes_pass view n a b r st g = decodes_going view (λ s. n) (λ s. s.at) (λ s. tt) st g
+pub decodes_pass : {T : Type 0} (view : T → Unit {0}) (n : ℕ) (a b : Standing) (r : Result T CutFault) → Stands a → Stands b → GoesOn n a.place a b r → Decodes view (pass_at n) a b (cut_result r)
+decodes_pass view n a b r st st2 g = decodes_going view (λ s. n) (λ s. s.at) (λ s. tt) st st2 g
     (λ xs e. (refl, omega (arith, st.from_origin)))
     (λ t xs is e. refl)
 
@@ -126,9 +137,9 @@ given : {T : Type 0} (octets : List ℕ) (a : Standing) {r : Result T CutFault} 
 given octets a {r = Ok u} t xs e is g = some_told octets a.ahead xs is g
 given octets a {r = Err f} t xs e is g = absurd cc
 
-pub decodes_octets : {T : Type 0} (octets : List ℕ) (a b : Standing) (r : Result T CutFault) → Stands a → GoesOn (length octets) a.place a b r → Gives a octets r → Decodes {T = T} (λ t. octets) (λ o s. octets_at (length octets) s) a b (cut_result r)
+pub decodes_octets : {T : Type 0} (octets : List ℕ) (a b : Standing) (r : Result T CutFault) → Stands a → Stands b → GoesOn (length octets) a.place a b r → Gives a octets r → Decodes {T = T} (λ t. octets) (λ o s. octets_at (length octets) s) a b (cut_result r)
 unfolding octets_at
-decodes_octets {T} octets a b r st g gives = decodes_going (λ t. octets) (λ s. length octets) (λ s. s.at) (λ s. take (length octets) s.rest) st g
+decodes_octets {T} octets a b r st st2 g gives = decodes_going (λ t. octets) (λ s. length octets) (λ s. s.at) (λ s. take (length octets) s.rest) st st2 g
     (λ xs e. (refl, omega (arith, st.from_origin)))
     (λ t xs is e. given octets a t xs is e gives ∙ sym (take_of_take (length octets) (room a) xs (fits_of (length octets) a.place a b t is g) (omega (arith, st.told xs e, st.in_region, st.in_whole))))
 
@@ -138,12 +149,14 @@ decodes_octets {T} octets a b r st g gives = decodes_going (λ t. octets) (λ s.
 pub record Ahead {A : Type 0} (f k : Order → Spot → Reading A) (a b : Standing) : Type 0 where
   pub within : Within a b
   pub later : a.place ≤ b.place
+  pub inside : StaysInside a b
   pub told : (xs : List ℕ) → a.ahead ≡ Some xs → (b.ahead ≡ Some (after a b xs)) × (f a.order (spot a xs) ≡ k a.order (spot b (after a b xs)))
 
 pub begins : {A : Type 0} (f k : Order → Spot → Reading A) (a : Standing) → ((s : Spot) → f a.order s ≡ k a.order s) → Ahead f k a a
 begins f k a same = record {
   within = within_refl a;
   later = omega arith;
+  inside = λ h. h;
   told = λ xs e.
       let none : a.place - a.place ≡ 0 = omega arith in
       (e ∙ ap (λ (j : ℕ). Some (drop j xs)) (sym none), same (spot a xs) ∙ ap (λ (j : ℕ). k a.order (spot a (drop j xs))) (sym none));
@@ -159,6 +172,7 @@ unfolding ◌>>=◌
 goes_on {f = f} view h k {a} {b} {c} {t} u d = record {
   within = within_trans u.within d.within;
   later = omega (arith, u.later, d.later);
+  inside = inside_trans c u.within u.inside d.inside;
   told = λ xs e.
       let (there, same) = u.told xs e in
       let read = d.told (after a b xs) there in
@@ -175,6 +189,7 @@ unfolding ◌>>=◌
 fails {f = f} view wanted h k {a} {b} {c} {d = Malformed at why} u p = record {
   within = along_trans u.within.along p.within;
   later = omega (arith, u.later, p.later);
+  inside = inside_trans c u.within u.inside p.inside;
   cause = tt;
   told = λ xs e.
       let (there, same) = u.told xs e in
@@ -185,12 +200,14 @@ fails {f = f} view wanted h k {a} {b} {c} {d = Malformed at why} u p = record {
 fails {f = f} view wanted h k {a} {b} {c} {d = ReadFault} u p = record {
   within = along_trans u.within.along p.within;
   later = omega (arith, u.later, p.later);
+  inside = inside_trans c u.within u.inside p.inside;
   cause = rose_more u.within.along.faults p.cause;
   told = λ xs e. elim (f a.order (spot a xs)) as (λ r. Answers wanted a c xs r (Err ReadFault)) [ Ok x ↦ tt | Err x ↦ tt ];
 }
 fails {f = f} view wanted h k {a} {b} {c} {d = OutOfMemory} u p = record {
   within = along_trans u.within.along p.within;
   later = omega (arith, u.later, p.later);
+  inside = inside_trans c u.within u.inside p.inside;
   cause = tt;
   told = λ xs e. elim (f a.order (spot a xs)) as (λ r. Answers wanted a c xs r (Err OutOfMemory)) [ Ok x ↦ tt | Err x ↦ tt ];
 }
@@ -200,6 +217,7 @@ pub ends : {S B : Type 0} {f : Order → Spot → Reading B} (wanted : S → B) 
 ends {f = f} wanted v {a} {b} {t} u e = record {
   within = u.within;
   later = u.later;
+  inside = u.inside;
   cause = tt;
   told = λ xs is.
       let (there, same) = u.told xs is in
@@ -212,7 +230,7 @@ bind_ok (Ok x) = refl
 bind_ok (Err f) = refl
 
 through : {B : Type 0} {f : Order → Spot → Reading B} (k : Order → Spot → Reading B) {a b : Standing} → Ahead f k a b → Ahead f (λ o s. k o s >>= λ x. Ok (x.0, x.1)) a b
-through k {a} {b} u = record { within = u.within; later = u.later; told = λ xs e. let (there, same) = u.told xs e in (there, same ∙ bind_ok (k a.order (spot b (after a b xs)))) }
+through k {a} {b} u = record { within = u.within; later = u.later; inside = u.inside; told = λ xs e. let (there, same) = u.told xs e in (there, same ∙ bind_ok (k a.order (spot b (after a b xs)))) }
 
 -- what is left was read
 pub last : {S B : Type 0} {f : Order → Spot → Reading B} (wanted : S → B) (k : Order → Spot → Reading B) {a b c : Standing} {r : Result S DecodeFault} → Ahead f k a b → Decodes wanted k b c r → Decodes wanted f a c r
@@ -226,6 +244,7 @@ pub malformed : {S B : Type 0} {f : Order → Spot → Reading B} (wanted : S �
 malformed {f = f} wanted q w {a} {b} {at} u e = record {
   within = u.within.along;
   later = u.later;
+  inside = u.inside;
   cause = tt;
   told = λ xs is.
       let (there, same) = u.told xs is in
@@ -236,6 +255,7 @@ pub no_memory : {S B : Type 0} {f k : Order → Spot → Reading B} (wanted : S 
 no_memory {f = f} wanted {a} {b} u = record {
   within = u.within.along;
   later = u.later;
+  inside = u.inside;
   cause = tt;
   told = λ xs e. elim (f a.order (spot a xs)) as (λ r. Answers wanted a b xs r (Err OutOfMemory)) [ Ok x ↦ tt | Err x ↦ tt ];
 }
@@ -245,6 +265,7 @@ pub read_fault : {S B : Type 0} {f k : Order → Spot → Reading B} (wanted : S
 read_fault {f = f} wanted {a} {b} {c} {d} u e = rw e.fault (record {
   within = along_trans u.within.along e.along;
   later = omega (arith, u.later, e.later);
+  inside = inside_trans c u.within u.inside e.inside;
   cause = rose_more u.within.along.faults e.rose;
   told = λ xs is. elim (f a.order (spot a xs)) as (λ r. Answers wanted a c xs r (Err ReadFault)) [ Ok x ↦ tt | Err x ↦ tt ];
 })
@@ -254,6 +275,7 @@ pub rephrased : {B : Type 0} {f : Order → Spot → Reading B} (k l : Order →
 rephrased k l {a} {b} u same = record {
   within = u.within;
   later = u.later;
+  inside = u.inside;
   told = λ xs e. let (there, is) = u.told xs e in (there, is ∙ rw (← u.within.order) (same (after a b xs) there));
 }
 
@@ -296,6 +318,7 @@ unfolding passing ◌>>=◌
 region_passed view f n a b c d outer t st stc en r l = record {
   within = left_within n a b c d outer en r.within l;
   later = omega (arith, left_place n a b c d outer en r.within l);
+  inside = λ h. omega (arith, left_place n a b c d outer en r.within l, en.fits);
   cause = tt;
   told = λ xs e.
       let one = reads_ok view (f b.order (spot b xs)) b c xs t (r.told xs (en.ahead ∙ e)) in
@@ -310,6 +333,7 @@ unfolding filling ◌>>=◌
 region_filled view f n a b c d outer t st stc en r none l = record {
   within = left_within n a b c d outer en r.within l;
   later = omega (arith, left_place n a b c d outer en r.within l);
+  inside = λ h. omega (arith, left_place n a b c d outer en r.within l, en.fits);
   cause = tt;
   told = λ xs e.
       let one = reads_ok view (f b.order (spot b xs)) b c xs t (r.told xs (en.ahead ∙ e)) in
@@ -326,6 +350,7 @@ unfolding filling ◌>>=◌
 region_rest view f n a b c outer t st stc en r some = record {
   within = along_trans en.along r.within.along;
   later = omega (arith, en.place, r.later);
+  inside = λ h. omega (arith, some, r.within.region_end, en.region_end, en.fits);
   cause = tt;
   told = λ xs e.
       let one = reads_ok view (f b.order (spot b xs)) b c xs t (r.told xs (en.ahead ∙ e)) in
@@ -343,6 +368,7 @@ unfolding ◌>>=◌
 region_fails view wanted f k n a b c outer (Malformed at w) st en r = record {
   within = along_trans en.along r.within;
   later = omega (arith, en.place, r.later);
+  inside = inside_entered c en r.inside;
   cause = tt;
   told = λ xs e.
       let one = reads_err view (f b.order (spot b xs)) b c xs at w (r.told xs (en.ahead ∙ e)) in
@@ -352,12 +378,14 @@ region_fails view wanted f k n a b c outer (Malformed at w) st en r = record {
 region_fails view wanted f k n a b c outer ReadFault st en r = record {
   within = along_trans en.along r.within;
   later = omega (arith, en.place, r.later);
+  inside = inside_entered c en r.inside;
   cause = rose_more en.along.faults r.cause;
   told = λ xs e. elim (f a.order (front n (spot a xs)) >>= λ x. k x (spot a xs)) as (λ r. Answers wanted a c xs r (Err ReadFault)) [ Ok x ↦ tt | Err x ↦ tt ];
 }
 region_fails view wanted f k n a b c outer OutOfMemory st en r = record {
   within = along_trans en.along r.within;
   later = omega (arith, en.place, r.later);
+  inside = inside_entered c en r.inside;
   cause = tt;
   told = λ xs e. elim (f a.order (front n (spot a xs)) >>= λ x. k x (spot a xs)) as (λ r. Answers wanted a c xs r (Err OutOfMemory)) [ Ok x ↦ tt | Err x ↦ tt ];
 }
@@ -380,8 +408,8 @@ step_left : (n : ℕ) (s : Spot) → length (step n s).rest ≡ length s.rest - 
 unfolding step
 step_left n s = length-drop n s.rest
 
-pub number_parts : (most : ℕ) (o : Order) (k : ℕ) (s : Spot) → number_at most o k s ≡ (align_at (min k most) o s >>= λ x. octets_at k x.1 >>= λ y. Ok (number o y.0, y.1))
-unfolding number_at octets_at ◌>>=◌
+pub number_parts : (most : ℕ) (o : Order) (k : ℕ) (s : Spot) → number_at most o k s ≡ (align_at (min k most) o s >>= λ x. digits_at k o x.1)
+unfolding number_at octets_at digits_at ◌>>=◌
 number_parts most o k s =
     let pad = padding (min k most) s.at in
     elim (cases_Bool (nat_lt (length s.rest) pad)) [
@@ -404,23 +432,12 @@ number_parts most o k s =
           ])
     ]
 
-abbrev as_number : Order → List ℕ × Spot → Reading ℕ
-as_number o y = Ok (number o y.0, y.1)
-
-abbrev at_place : ℕ → ℕ × Spot → Reading (ℕ × ℕ)
+abbrev pub at_place : ℕ → ℕ × Spot → Reading (ℕ × ℕ)
 at_place p n = Ok ((p, n.0), n.1)
 
-abbrev placed_number : ℕ → Order → List ℕ × Spot → Reading (ℕ × ℕ)
-placed_number p o y = Ok ((p, number o y.0), y.1)
-
-placed_octets : (p : ℕ) (o : Order) (r : Reading (List ℕ)) → ((r >>= as_number o) >>= at_place p) ≡ (r >>= placed_number p o)
+placed_step : (k p : ℕ) (o : Order) (r : Reading (Unit {0})) → ((x : Unit {0} × Spot) → r ≡ Ok x → x.1.at ≡ p) → ((r >>= λ x. digits_at k o x.1) >>= at_place p) ≡ (r >>= λ x. digits_at k o x.1 >>= at_place x.1.at)
 unfolding ◌>>=◌
-placed_octets p o (Ok y) = refl
-placed_octets p o (Err f) = refl
-
-placed_step : (k p : ℕ) (o : Order) (r : Reading (Unit {0})) → ((x : Unit {0} × Spot) → r ≡ Ok x → x.1.at ≡ p) → ((r >>= λ x. octets_at k x.1 >>= as_number o) >>= at_place p) ≡ (r >>= λ x. octets_at k x.1 >>= placed_number x.1.at o)
-unfolding ◌>>=◌
-placed_step k p o (Ok x) at = placed_octets p o (octets_at k x.1) ∙ ap (λ (n : ℕ). octets_at k x.1 >>= placed_number n o) (sym (at x refl))
+placed_step k p o (Ok x) at = ap (λ (n : ℕ). digits_at k o x.1 >>= at_place n) (sym (at x refl))
 placed_step k p o (Err f) at = refl
 
 abbrev place_in : Reading (Unit {0}) → ℕ
@@ -434,7 +451,7 @@ going_case false n at s x e = ap (λ (r : Reading (Unit {0})). place_in r) (sym 
 going_place : (n at : ℕ) (s : Spot) (x : Unit {0} × Spot) → going n at tt s ≡ Ok x → x.1.at ≡ s.at + n
 going_place n at s x e = going_case (nat_lt (length s.rest) n) n at s x e
 
-pub placed_parts : (most : ℕ) (o : Order) (k : ℕ) (s : Spot) → placed_at most k o s ≡ (align_at (min k most) o s >>= λ x. octets_at k x.1 >>= placed_number x.1.at o)
+pub placed_parts : (most : ℕ) (o : Order) (k : ℕ) (s : Spot) → placed_at most k o s ≡ (align_at (min k most) o s >>= λ x. digits_at k o x.1 >>= at_place x.1.at)
 unfolding placed_at
 placed_parts most o k s =
     ap (λ (r : Reading ℕ). r >>= at_place (s.at + padding (min k most) s.at)) (number_parts most o k s)
@@ -469,10 +486,11 @@ pub decodes_as : {T A : Type 0} (view : T → A) (f g : Order → Spot → Readi
 decodes_as view f g {a} same d = last view g (begins f g a same) d
 
 -- the device failed as the cursor left its region
-pub leave_fails : (n : ℕ) (a b c d : Standing) (outer : Outer) (e : DecodeFault) → Entered n a b outer → Within b c → b.place ≤ c.place → Fails c d e → Fails a d e
-leave_fails n a b c d outer e en w le f = record {
+pub leave_fails : (n : ℕ) (a b c d : Standing) (outer : Outer) (e : DecodeFault) → Stands c → Entered n a b outer → Within b c → b.place ≤ c.place → Fails c d e → Fails a d e
+leave_fails n a b c d outer e stc en w le f = record {
   along = along_trans en.along (along_trans w.along f.along);
   later = omega (arith, en.place, le, f.later);
+  inside = inside_entered d en (λ h. omega (arith, f.inside (omega (arith, stc.in_region)), w.region_end));
   fault = f.fault;
   rose = rose_more en.along.faults (rose_more w.along.faults f.rose);
 }

@@ -1,4 +1,3 @@
-pub mod Digits
-pub mod Units
 pub mod Ahead
 pub mod Regions
+pub mod Outcomes

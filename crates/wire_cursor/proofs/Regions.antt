@@ -27,7 +27,7 @@ filled_fails view wanted f n a b c outer e st en d = region_fails view wanted f 
 filled_stops : {T A : Type 0} {t : T} (view : T → A) (f : Order → Spot → Reading A) (n : ℕ) (a b c d : Standing) (outer : Outer) (e : DecodeFault) → Stands a → Stands c → Entered n a b outer → Decodes view f b c (Ok t) → (HasRest c d e ⊎ Fails c d e)
     → Decodes view (λ o s. filling n (f o) s) a d (Err e)
 filled_stops {t = t} view f n a b c d outer e st stc en x (inl h) = rw (h.fault, h.same) (region_rest view f n a b c outer t st stc en x h.some)
-filled_stops {t = t} view f n a b c d outer e st stc en x (inr l) = fails_here view (λ o s. filling n (f o) s) (leave_fails n a b c d outer e en x.within x.later l)
+filled_stops {t = t} view f n a b c d outer e st stc en x (inr l) = fails_here view (λ o s. filling n (f o) s) (leave_fails n a b c d outer e stc en x.within x.later l)
 
 -- the part's region, entered after `m`, ends: all of it was read
 pub filled_closes : {T A : Type 0} {t : T} (view : T → A) (f : Order → Spot → Reading A) (n : ℕ) (a b c d : Standing) (outer : Outer) → Stands a → Stands c → Entered n a b outer → Decodes view f b c (Ok t) → Closes Filled outer c d (Ok tt)
@@ -72,5 +72,5 @@ frame_closes {t = t} Filled view f a b c d outer st x r l = last view (at_count 
 
 pub frame_stops : {T A : Type 0} {t : T} (fr : Framing) (view : T → A) (f : Order → Spot → Reading A) (a b c d : Standing) (outer : Outer) (e : DecodeFault) → Stands c → Opened fr a b outer → Decodes view f b c (Ok t) → Closes fr outer c d (Err e) → Decodes view (framed fr f) a d (Err e)
 frame_stops {t = t} Open view f a b c d outer e st x r l = absurd l
-frame_stops {t = t} Passed view f a b c d outer e st x r l = last view (at_count Passed f x.count) (counted Passed f x.count a x.middle (inl refl) x.read) (fails_here view (λ o s. passing x.count (f o) s) (leave_fails x.count x.middle b c d outer e x.entered r.within r.later l))
+frame_stops {t = t} Passed view f a b c d outer e st x r l = last view (at_count Passed f x.count) (counted Passed f x.count a x.middle (inl refl) x.read) (fails_here view (λ o s. passing x.count (f o) s) (leave_fails x.count x.middle b c d outer e st x.entered r.within r.later l))
 frame_stops {t = t} Filled view f a b c d outer e st x r l = last view (at_count Filled f x.count) (counted Filled f x.count a x.middle (inr refl) x.read) (filled_stops {t = t} view f x.count x.middle b c d outer e x.stands st x.entered r l)

@@ -8,7 +8,7 @@ use Rattle.wire_cursor.specs.declared.faults.DecodeFault.{DecodeFault}
 use Rattle.wire_cursor.specs.declared.faults.DecodeFault.TheVariants.{Malformed, ReadFault, OutOfMemory}
 use Rattle.xcdr_model.specs.declared.malformed.Fault.{Fault}
 use Rattle.xcdr_model.specs.Reading.{Spot, Reading}
-use Rattle.wire_cursor.specs.Standing.{Standing, Along, Within, room}
+use Rattle.wire_cursor.specs.Standing.{Standing, Along, Within, StaysInside, room}
 
 -- the spot of a cursor that has these octets ahead
 abbrev pub spot : Standing → List ℕ → Spot
@@ -56,6 +56,7 @@ InRegion a b (Err d) = Along a b
 pub record Decodes {T A : Type 0} (view : T → A) (f : Order → Spot → Reading A) (a b : Standing) (result : Result T DecodeFault) : Type 0 where
   pub within : InRegion a b result
   pub later : a.place ≤ b.place
+  pub inside : StaysInside a b
   pub cause : HasRisen a b result
   pub told : (xs : List ℕ) → a.ahead ≡ Some xs → Answers view a b xs (f a.order (spot a xs)) result
 
@@ -63,6 +64,7 @@ pub record Decodes {T A : Type 0} (view : T → A) (f : Order → Spot → Readi
 pub record Fails (a b : Standing) (d : DecodeFault) : Type 0 where
   pub along : Along a b
   pub later : a.place ≤ b.place
+  pub inside : StaysInside a b
   pub fault : d ≡ ReadFault
   pub rose : Rose a.faults b.faults
 

@@ -5,3 +5,4 @@ pub mod Slices
 pub mod Steps
 pub mod Placing
 pub mod Frames
+pub mod Outcomes

@@ -1,5 +1,5 @@
 -- Where a cursor stands, and what its calls do to that.
-use Rattle.std.specs.Prelude.{◌≡◌, ℕ, ◌+◌, ◌-◌, ◌^◌, ◌<◌, ◌≤◌, ◌⊎◌, List, length, take, drop, Some, Result, Ok, Err, OnOk, IfSome}
+use Rattle.std.specs.Prelude.{◌≡◌, ℕ, ◌+◌, ◌-◌, ◌^◌, ◌<◌, ◌≤◌, List, length, take, drop, Some, Result, Ok, Err, OnOk, IfSome}
 use Rattle.std.specs.declared.option.Option.{Option}
 use Rattle.std.specs.Option.{option_map}
 use Rattle.xt_outside.specs.Outside.{Rose}
@@ -35,9 +35,6 @@ room a = a.region_end - a.place
 abbrev pub pad_of : ℕ → Standing → ℕ
 pad_of m a = padding m (a.place - a.origin)
 
-abbrev pub IsUnit : ℕ → Type 0
-IsUnit n = (n ≡ 1) ⊎ ((n ≡ 2) ⊎ ((n ≡ 4) ⊎ (n ≡ 8)))
-
 -- the same whole, origin, order and name, and no fewer faults
 pub record Along (a b : Standing) : Type 0 where
   pub whole : b.whole ≡ a.whole
@@ -50,6 +47,10 @@ pub record Within (a b : Standing) : Type 0 where
   pub region_end : b.region_end ≡ a.region_end
   pub origin : b.origin ≡ a.origin
   pub order : b.order ≡ a.order
+
+-- The place stays within the region, whatever became of the region: it is not past the end that the region had. (Each cursor stands in its region.)
+abbrev pub StaysInside : Standing → Standing → Type 0
+StaysInside a b = a.place ≤ a.region_end → b.place ≤ a.region_end
 
 -- n octets on, in the same region
 pub record Moved (n : ℕ) (a b : Standing) : Type 0 where
@@ -83,6 +84,12 @@ GoesOn n at a b (Err Fault) = (n ≤ room a) × Stopped a b
 -- the octets that were read are those ahead
 abbrev pub Gives : {T : Type 0} → Standing → List ℕ → Result T CutFault → Type 0
 Gives a octets result = OnOk result (IfSome a.ahead (λ xs. octets ≡ take (length octets) xs))
+
+-- where too few octets are there, none is written
+abbrev pub IsKept : {T : Type 0} → List ℕ → List ℕ → Result T CutFault → Type 0
+IsKept old new (Ok u) = Unit {0}
+IsKept old new (Err (Short said)) = new ≡ old
+IsKept old new (Err Fault) = Unit {0}
 
 -- the next four octets are those ahead
 pub record Peeked (a b : Standing) (octets : List ℕ) : Type 0 where

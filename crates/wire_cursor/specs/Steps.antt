@@ -5,8 +5,8 @@ use Rattle.wire_cursor.specs.declared.cursor.CutFault.{CutFault}
 use Rattle.xcdr_model.specs.declared.malformed.Why.TheVariants.{Short}
 use Rattle.wire_cursor.specs.declared.faults.DecodeFault.{DecodeFault}
 use Rattle.wire_cursor.specs.Cuts.{cut_fault}
-use Rattle.xcdr_model.specs.Numbers.{padding}
-use Rattle.xcdr_model.specs.Reading.{Spot, Reading, ◌>>=◌, fault_at, step, number_at}
+use Rattle.xcdr_model.specs.Numbers.{padding, number}
+use Rattle.xcdr_model.specs.Reading.{Spot, Reading, ◌>>=◌, fault_at, step, octets_at, number_at}
 
 -- n octets on, where there are as many
 abbrev pub going : {A : Type 0} → ℕ → ℕ → A → Spot → Reading A
@@ -23,6 +23,10 @@ pass_at n o s = going n s.at tt s
 abbrev pub cut_result : {T : Type 0} → Result T CutFault → Result T DecodeFault
 cut_result (Ok t) = Ok t
 cut_result (Err f) = Err (cut_fault f)
+
+-- a number of k octets at this place
+unfoldable pub digits_at : ℕ → Order → Spot → Reading ℕ
+digits_at k o s = octets_at k s >>= λ y. Ok (number o y.0, y.1)
 
 -- a number, and its aligned place
 unfoldable pub placed_at : ℕ → ℕ → Order → Spot → Reading (ℕ × ℕ)

@@ -1,14 +1,18 @@
 ghost use Rattle.std.specs.Prelude.{◌≡◌, ◌≤◌, ◌<◌, ◌-◌, ℕ, length, min};
-ghost use Rattle.wire_cursor.specs.Standing.{Standing, Stands, GoesOn, Gives, Peeks, IsEntered, HasEnd, HasOrigin, HasOrder, IsUnit, pad_of};
+ghost use Rattle.wire_cursor.specs.Standing.{Standing, Stands, GoesOn, Gives, IsKept, Peeks, IsEntered, HasEnd, HasOrigin, HasOrder, pad_of};
+ghost use Rattle.wire_numbers.specs.Units.{IsUnit};
 
+use thiserror::Error;
 use xt_shapes::Order;
 
 /// Why a cursor did not go on.
-#[derive(Clone, Copy, Debug, PartialEq, Eq)]
+#[derive(Clone, Copy, Debug, PartialEq, Eq, Error)]
 pub enum CutFault {
     /// The region has too few octets.
+    #[error("too few octets are left at octet {at}")]
     Short { at: u64 },
     /// The device failed.
+    #[error("reading failed")]
     Fault,
 }
 
@@ -44,10 +48,11 @@ pub trait Cursor {
         requires most { IsUnit most }
         ensures { GoesOn (pad_of (min to most) (state self.old)) (state self.old).region_end (state self.old) (state self.new) result };
 
-    /// Reads as many octets as the slice has.
+    /// Reads as many octets as the slice has. Where the region has fewer, the slice is unchanged.
     fn take(&mut self, into: &mut [u8]) -> Result<(), CutFault>
         ensures moves { GoesOn (length into.new) (state self.old).place (state self.old) (state self.new) result }
-        ensures octets { Gives (state self.old) into.new result };
+        ensures octets { Gives (state self.old) into.new result }
+        ensures short { IsKept into.old into.new result };
 
     /// The next four octets, before which the cursor stays.
     fn peek(&mut self) -> Result<[u8; 4], CutFault>

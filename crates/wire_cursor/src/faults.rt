@@ -4,17 +4,21 @@ ghost use Rattle.wire_cursor.specs.declared.faults.DecodeFault.TheVariants.{OutO
 
 use crate::cursor::CutFault;
 use std::alloc::AllocError;
+use thiserror::Error;
 use xcdr_model::Why;
 use xt_lists::OutOfMemory;
 
 /// Why nothing was decoded.
-#[derive(Clone, Copy, Debug, PartialEq, Eq)]
+#[derive(Clone, Copy, Debug, PartialEq, Eq, Error)]
 pub enum DecodeFault {
     /// The octets are malformed: the first fault in reading order, and its place, counted from the first octet of all.
+    #[error("the octets are malformed at octet {at}: {why}")]
     Malformed { at: u64, why: Why },
     /// The cursor's device failed, or its input ended too early.
+    #[error("reading failed, or the input ended too early")]
     ReadFault,
     /// Memory was wanting.
+    #[error("memory is wanting")]
     OutOfMemory,
 }
 

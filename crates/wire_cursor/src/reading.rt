@@ -1,17 +1,19 @@
 // What decoders read: a cursor's calls, and numbers.
 ghost use Rattle.std.specs.Prelude.{◌≡◌, ◌≤◌, ◌<◌, ◌^◌, length, min, IfOk, IfErr, OnOk};
-ghost use Rattle.wire_cursor.specs.Standing.{IsUnit, Entered, room};
+ghost use Rattle.wire_numbers.specs.Units.{IsUnit};
+ghost use Rattle.wire_cursor.specs.Standing.{Entered, room};
 ghost use Rattle.wire_cursor.specs.Decoding.{Decodes, Fails, Left};
 ghost use Rattle.wire_cursor.specs.Placing.{placed_view};
 ghost use Rattle.xcdr_model.specs.Reading.{number_at, octets_at, dheader};
-ghost use Rattle.wire_cursor.specs.Steps.{align_at, pass_at, placed_at};
+ghost use Rattle.wire_cursor.specs.Steps.{align_at, pass_at, digits_at, placed_at};
 
 use crate::cursor::{Cursor, Outer};
 use crate::faults::{DecodeFault, cut};
-use crate::numbers::number;
+use wire_numbers::number;
 use xcdr_model::Why;
 
 /// Goes on to an aligned place.
+#[inline(always)]
 pub fn read_align<C: Cursor>(cursor: &mut C, to: u32, most: u32) -> Result<(), DecodeFault>
     requires to { IsUnit to }
     requires most { IsUnit most }
@@ -24,6 +26,7 @@ pub fn read_align<C: Cursor>(cursor: &mut C, to: u32, most: u32) -> Result<(), D
 }
 
 /// Reads octets as they are.
+#[inline(always)]
 pub fn read_octets<C: Cursor>(cursor: &mut C, into: &mut [u8]) -> Result<(), DecodeFault>
     ensures { Decodes (λ u. into.new) (λ o. octets_at (length into.new)) (C.state cursor.old) (C.state cursor.new) result }
 {
@@ -43,6 +46,33 @@ pub fn read_pass<C: Cursor>(cursor: &mut C, count: u64) -> Result<(), DecodeFaul
     }
 }
 
+// Reads a number of N octets where the cursor stands.
+#[inline(always)]
+fn read_few<const N: usize, C: Cursor>(cursor: &mut C) -> Result<u64, DecodeFault>
+    requires { IsUnit N }
+    ensures below { IfOk result (λ n. n < 256 ^ N) }
+    ensures value { Decodes (λ n. n) (digits_at N) (C.state cursor.old) (C.state cursor.new) result }
+{
+    let mut octets = [0u8; N];
+    read_octets(cursor, &mut octets)?;
+    Ok(number(cursor.order(), &octets))
+}
+
+// Reads a number of `size` octets where the cursor stands. Each size is known where it is read, so that no call copies by a count.
+#[inline(always)]
+fn read_digits<C: Cursor>(cursor: &mut C, size: u32) -> Result<u64, DecodeFault>
+    requires { IsUnit size }
+    ensures below { IfOk result (λ n. n < 256 ^ size) }
+    ensures value { Decodes (λ n. n) (digits_at size) (C.state cursor.old) (C.state cursor.new) result }
+{
+    match size {
+        1 => read_few::<1, C>(cursor),
+        2 => read_few::<2, C>(cursor),
+        4 => read_few::<4, C>(cursor),
+        _ => read_few::<8, C>(cursor),
+    }
+}
+
 /// Reads a number of `size` octets, aligned to its size and at most to `most`.
 pub fn read_number<C: Cursor>(cursor: &mut C, most: u32, size: u32) -> Result<u64, DecodeFault>
     requires most { IsUnit most }
@@ -50,9 +80,7 @@ pub fn read_number<C: Cursor>(cursor: &mut C, most: u32, size: u32) -> Result<u6
     ensures { Decodes (λ n. n) (λ o. number_at most o size) (C.state cursor.old) (C.state cursor.new) result }
 {
     read_align(cursor, size, most)?;
-    let mut octets = [0u8; 8];
-    read_octets(cursor, &mut octets[..size as usize])?;
-    Ok(number(cursor.order(), &octets[..size as usize]))
+    read_digits(cursor, size)
 }
 
 /// A number, and the place of its first octet.
@@ -63,6 +91,7 @@ pub struct Placed {
 }
 
 /// Reads a number as `read_number` does, and tells its aligned place.
+#[inline(always)]
 pub fn read_placed<C: Cursor>(cursor: &mut C, most: u32, size: u32) -> Result<Placed, DecodeFault>
     requires most { IsUnit most }
     requires size { IsUnit size }
@@ -72,12 +101,8 @@ pub fn read_placed<C: Cursor>(cursor: &mut C, most: u32, size: u32) -> Result<Pl
 {
     read_align(cursor, size, most)?;
     let at = cursor.place();
-    let mut octets = [0u8; 8];
-    read_octets(cursor, &mut octets[..size as usize])?;
-    Ok(Placed {
-        at,
-        number: number(cursor.order(), &octets[..size as usize]),
-    })
+    let number = read_digits(cursor, size)?;
+    Ok(Placed { at, number })
 }
 
 /// Reads the count of a region's octets, which is at most as far as the region around it goes.
@@ -96,6 +121,7 @@ pub fn read_dheader<C: Cursor>(cursor: &mut C) -> Result<u64, DecodeFault>
 }
 
 /// Makes the next octets the region.
+#[inline(always)]
 pub fn enter_part<C: Cursor>(cursor: &mut C, count: u64) -> Result<Outer, DecodeFault>
     requires { count ≤ room (C.state cursor.old) }
     ensures entered { IfOk result (Entered count (C.state cursor.old) (C.state cursor.new)) }
@@ -108,6 +134,7 @@ pub fn enter_part<C: Cursor>(cursor: &mut C, count: u64) -> Result<Outer, Decode
 }
 
 /// Passes over what is left of the region and leaves it.
+#[inline(always)]
 pub fn leave_part<C: Cursor>(cursor: &mut C, outer: Outer) -> Result<(), DecodeFault>
     requires ahead { (C.state cursor.old).region_end ≤ outer.end }
     requires within { outer.end ≤ (C.state cursor.old).whole }

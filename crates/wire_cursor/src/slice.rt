@@ -1,6 +1,7 @@
 ghost use Rattle.std.specs.Prelude.{◌≡◌, ◌≤◌, ◌<◌, ◌^◌, length};
 
 use crate::cursor::{Cursor, CutFault, Outer};
+use wire_numbers::padding;
 use xt_shapes::Order;
 
 /// A cursor over octets in memory, which never fails.
@@ -58,8 +59,7 @@ impl<'a> Cursor for SliceCursor<'a> {
     }
 
     fn align(&mut self, to: u32, most: u32) -> Result<(), CutFault> {
-        let unit = to.min(most) as usize;
-        let pad = (unit - (self.place - self.origin) % unit) % unit;
+        let pad = padding(to.min(most), (self.place - self.origin) as u64) as usize;
         if self.end - self.place < pad {
             return Err(CutFault::Short {
                 at: self.end as u64,

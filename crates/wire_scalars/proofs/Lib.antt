@@ -1,3 +1,3 @@
-pub mod Signs
+pub mod MaskSteps
 pub mod ScalarSteps
 pub mod TextSteps

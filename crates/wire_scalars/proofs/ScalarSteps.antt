@@ -1,10 +1,9 @@
 -- Numbers by their types, told their places.
-use Rattle.std.proofs.Common.{◌≡◌, refl, ℕ, ◌+◌, ◌-◌, ◌^◌, ◌≤◌, ◌<◌, ℤ, pos, Bool, true, false, cond, nat_le, nat_lt, min, ◌==◌, ◌&&◌, [], Ok, Err, Result, ap, sym, ◌∙◌, List}
+use Rattle.std.proofs.Common.{◌≡◌, refl, ℕ, ◌+◌, ◌^◌, ℤ, pos, Bool, true, cond, nat_le, min, ◌==◌, Ok, Result, ap}
 use Rattle.xt_shapes.specs.declared.leaves.Order.{Order}
 use Rattle.xt_shapes.specs.declared.leaves.Primitive.{Primitive}
 use Rattle.xt_shapes.specs.declared.leaves.Primitive.TheVariants.{Boolean, Byte, Int8, Uint8, Int16, Uint16, Int32, Uint32, Int64, Uint64, Float32, Float64, Char8}
 use Rattle.xcdr_model.specs.declared.malformed.Why.TheVariants as why
-use Rattle.xt_shapes.specs.Shape.{prim, enumeration, bitmask}
 use Rattle.xt_shapes.specs.Sizes.{size, is_boolean, is_signed, enum_size, mask_size}
 use Rattle.xcdr_model.specs.Numbers.{padding, with_sign}
 use Rattle.xcdr_model.specs.declared.malformed.Fault.{Fault}

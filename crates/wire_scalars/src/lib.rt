@@ -4,7 +4,7 @@
 mod scalars;
 mod texts;
 
-pub use scalars::{read_enum, read_mask, read_presence, read_prim, size_of};
+pub use scalars::{read_enum, read_mask, read_presence, read_prim};
 pub use texts::read_text;
 
 #[cfg(test)]

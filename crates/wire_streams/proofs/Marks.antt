@@ -10,8 +10,8 @@ use Rattle.xt_outside.specs.declared.records.Item.{Item}
 use Rattle.xt_outside.specs.declared.records.RecordFault.{RecordFault}
 use Rattle.xt_outside.specs.declared.records.RecordFault.TheVariants.{ReadFault, Truncated, UnknownKind, TooLong, TooMany, OutOfMemory}
 use Rattle.xt_io.specs.declared.bundle.Pending.{Pending}
-use Rattle.xt_io.specs.Readers.{Reading}
-use Rattle.wire_streams.specs.Marks.{number_of_two, number_of, fault_numbers, item_numbers, item_number, bundle_numbers, pending_numbers, mark_numbers, mark_of}
+use Rattle.xt_io.specs.Readers.{Reading, inside}
+use Rattle.wire_streams.specs.Marks.{number_of_two, number_of, fault_numbers, item_numbers, item_number, octets_numbers, bundle_numbers, pending_numbers, mark_numbers, mark_of}
 
 -- ---- numbers of lists
 
@@ -128,8 +128,15 @@ bundle-inj (Some a) (Some b) e =
     let items : a.items ≡ b.items = items-inj _ _ lists in
     same_bundle items end
 
+octets-inj : (a b : Option (List ℕ)) → octets_numbers a ≡ octets_numbers b → a ≡ b
+octets-inj None None e = refl
+octets-inj None (Some ys) e = absurd cc
+octets-inj (Some xs) None e = absurd cc
+octets-inj (Some xs) (Some ys) e = let same : xs ≡ ys = cc in ap (λ l. Some l) same
+
 -- What two readers of one mark share.
 pub record Shares (a b : Reading) : Type 0 where
+  pub inside : inside a ≡ inside b
   pub ahead : a.ahead ≡ b.ahead
   pub pending : a.pending ≡ b.pending
   pub follow : a.may_follow ≡ b.may_follow
@@ -141,8 +148,10 @@ unfolding mark_of
 mark-inj a b e =
     let same : mark_numbers a ≡ mark_numbers b = number-inj _ _ e in
     let ahead : number_of (bundle_numbers a.ahead) ≡ number_of (bundle_numbers b.ahead) = cc in
+    let left : number_of (octets_numbers (inside a)) ≡ number_of (octets_numbers (inside b)) = cc in
     let pending : number_of (pending_numbers a.pending) ≡ number_of (pending_numbers b.pending) = cc in
     record {
+      inside = octets-inj _ _ (number-inj _ _ left);
       ahead = bundle-inj _ _ (number-inj _ _ ahead);
       pending = sym (pending-back a.pending) ∙ ap pending_from (number-inj _ _ pending) ∙ pending-back b.pending;
       follow = cc;

@@ -1,5 +1,5 @@
 -- Where a cursor over a payload stands.
-use Rattle.std.proofs.Common.{◌≡◌, ℕ, ◌+◌, ◌-◌, ◌≤◌, List, drop, refl, sym, ap, ◌∙◌, arith, Some, None, Result, Ok, Err, OnOk, OnErr, IfSome}
+use Rattle.std.proofs.Common.{◌≡◌, ℕ, ◌+◌, ◌-◌, ◌≤◌, ◌⊎◌, List, length, drop, refl, sym, ap, ◌∙◌, arith, Some, None, Result, Ok, Err, OnOk, OnErr, IfSome}
 use Rattle.std.proofs.lemmas.List.{drop-drop}
 use Rattle.std.specs.declared.option.Option.{Option}
 use Rattle.std.specs.Option.{option_map}
@@ -10,7 +10,8 @@ use Rattle.xt_outside.specs.declared.octets.Failed.{Failed}
 use Rattle.xt_io.specs.declared.bundle.Pending.{Pending}
 use Rattle.xt_outside.specs.declared.octets.Source.{Ghosts}
 use Rattle.xt_outside.specs.declared.records.RecordFault.{RecordFault}
-use Rattle.wire_streams.specs.Streams.{payload_of, IsRead, IsMet, stopped_result}
+use Rattle.xt_outside.specs.declared.records.RecordFault.TheVariants.{ReadFault}
+use Rattle.wire_streams.specs.Streams.{payload_of, IsRead, IsMet, IsShortOf, stopped_result}
 use Rattle.wire_streams.specs.Cursors.{stream_state, Ends, held_count}
 use Rattle.wire_streams.specs.declared.cursor.StreamCursor.{StreamCursor}
 use Rattle.wire_streams.proofs.Marks.{mark-inj}
@@ -31,6 +32,12 @@ sure_count : (o : Option (List ℕ)) (k faults cuts : ℕ) → IfSome o (λ xs. 
 sure_count None k faults cuts sure = tt
 sure_count (Some xs) k faults cuts sure = omega (arith, sure)
 
+enough_after : (n k m : ℕ) (o p a : Option (List ℕ)) → k + n ≡ m → p ≡ o → IfSome o (λ xs. (a ≡ Some (drop m xs)) × (m ≤ length xs)) → IfSome p (λ xs. (a ≡ Some (drop (k + n) xs)) × (k + n ≤ length xs))
+enough_after n k m o p a e same enough = rw (e, same) enough
+
+short_after : (whole : ℕ) (fault : Option RecordFault) (o p : Option (List ℕ)) → p ≡ o → IfSome fault (λ f. (f ≡ ReadFault) ⊎ IsShortOf whole o) → IfSome fault (λ f. (f ≡ ReadFault) ⊎ IsShortOf whole p)
+short_after whole fault o p same short = rw same short
+
 pub stream_ends : {X : Type 0} {G : Ghosts X} (c : StreamCursor X G) → IsRead c.payload → Ends (held_count c) (stream_state c) c.payload.reader
 stream_ends c is began mark =
     let shared = mark-inj began c.payload.began mark in
@@ -41,8 +48,10 @@ stream_ends c is began mark =
       follow = is.follow ∙ sym shared.follow;
       behind = rw shared.ahead is.behind;
       octets = left_after (held_count c) c.place c.payload.read (payload_of c.payload) _ c.reached is.octets;
+      enough = enough_after (held_count c) c.place c.payload.read _ _ _ c.reached shared.inside is.enough;
       pending = λ none. rw shared.pending (let rest : c.payload.whole - c.place - held_count c ≡ c.payload.whole - c.payload.read = omega (arith, c.reached) in rw rest (is.pending (met_none _ _ _ is.fault none)));
       fault = rw shared.pending (met_fault _ _ _ is.fault);
+      short = short_after c.payload.whole c.payload.reader.fault _ _ shared.inside is.short;
       later = omega (arith, is.later, shared.faults);
       cause = λ failed. omega (arith, is.cause failed, shared.faults);
       counts = omega arith;

@@ -1,5 +1,5 @@
 -- Reading on in a payload.
-use Rattle.std.proofs.Common.{◌≡◌, ℕ, ◌+◌, ◌-◌, ◌≤◌, List, [], ◌∷◌, ◌++◌, length, take, drop, refl, sym, ap, ◌∙◌, subst, arith, length-append, length-drop, length-take-le, Some, None, IfSome, Bool, true, false, ◌==◌, ◌<◌, eqb-true, inl, inr, if◌then◌else◌}
+use Rattle.std.proofs.Common.{◌≡◌, ℕ, ◌+◌, ◌-◌, ◌≤◌, List, [], ◌∷◌, ◌++◌, length, take, drop, refl, sym, ap, ◌∙◌, subst, arith, length-append, length-drop, length-take-le, Some, None, IfSome, Bool, true, false, ◌==◌, ◌<◌, ◌⊎◌, eqb-true, inl, inr, if◌then◌else◌}
 use Rattle.std.proofs.lemmas.List.{drop_at, drop-drop, take-append-le}
 use Rattle.std.proofs.Math.Seq.{take-add, take-append-add}
 use Rattle.std.specs.Io.KnownBytes.{Consumes, Keeps, IsAtEnd}
@@ -11,7 +11,7 @@ use Rattle.xt_outside.specs.declared.records.RecordFault.TheVariants.{ReadFault,
 use Rattle.xt_io.specs.declared.bundle.Pending.{Pending}
 use Rattle.xt_io.specs.Readers.{Reading, ReadsOn, inside, first_fault}
 use Rattle.xt_io.proofs.Reading.{told-trans}
-use Rattle.wire_streams.specs.Streams.{Streaming, IsRead, IsRest, IsMet, IsAlong, AreNext, all_of, payload_of}
+use Rattle.wire_streams.specs.Streams.{Streaming, IsRead, IsRest, IsMet, IsShortOf, IsAlong, AreNext, all_of, payload_of}
 
 -- what is left of the octets, n octets on
 left_on : (k n : ℕ) (o a b : Option (List ℕ)) (bs : List ℕ) → IfSome o (λ xs. a ≡ Some (drop k xs)) → Consumes a b bs → length bs ≡ n → IfSome o (λ xs. b ≡ Some (drop (k + n) xs))
@@ -23,6 +23,33 @@ left_on k n (Some xs) (Some ys) (Some zs) bs left read e =
     let back : Some ys ≡ Some (drop k xs) = left in
     let from : ys ≡ drop k xs = cc in
     ap (λ l. Some l) (same ∙ ap (drop n) from ∙ drop-drop n k xs ∙ ap (λ (j : ℕ). drop j xs) (omega arith))
+
+-- the same, with those that were read
+enough_on : (k n : ℕ) (o a b : Option (List ℕ)) (bs : List ℕ) → IfSome o (λ xs. (a ≡ Some (drop k xs)) × (k ≤ length xs)) → Consumes a b bs → length bs ≡ n → IfSome o (λ xs. (b ≡ Some (drop (k + n) xs)) × (k + n ≤ length xs))
+enough_on k n None a b bs left read e = tt
+enough_on k n (Some xs) None b bs left read e = absurd (let none : None ≡ Some (drop k xs) = left.0 in cc)
+enough_on k n (Some xs) (Some ys) None bs left read e = absurd read
+enough_on k n (Some xs) (Some ys) (Some zs) bs left read e =
+    let back : Some ys ≡ Some (drop k xs) = left.0 in
+    let from : ys ≡ drop k xs = cc in
+    let within : k ≤ length xs = left.1 in
+    (left_on k n (Some xs) (Some ys) (Some zs) bs back read e, omega (arith, within, e, ap length read, ap length from, length-append bs zs, length-drop k xs))
+
+pub enough_begins : (o : Option (List ℕ)) → IfSome o (λ xs. (o ≡ Some (drop 0 xs)) × (0 ≤ length xs))
+enough_begins None = tt
+enough_begins (Some xs) = (refl, omega arith)
+
+enough_kept : (k : ℕ) (o a b : Option (List ℕ)) → IfSome o (λ xs. (a ≡ Some (drop k xs)) × (k ≤ length xs)) → Keeps a b → IfSome o (λ xs. (b ≡ Some (drop k xs)) × (k ≤ length xs))
+enough_kept k None a b left kept = tt
+enough_kept k (Some xs) None b left kept = absurd (let none : None ≡ Some (drop k xs) = left.0 in cc)
+enough_kept k (Some xs) (Some ys) None left kept = absurd kept
+enough_kept k (Some xs) (Some ys) (Some zs) left kept = (ap (λ l. Some l) kept ∙ left.0, left.1)
+
+enough_ended : (k : ℕ) (o a b : Option (List ℕ)) → IfSome o (λ xs. (a ≡ Some (drop k xs)) × (k ≤ length xs)) → Consumes a b [] → IfSome o (λ xs. (b ≡ Some (drop k xs)) × (k ≤ length xs))
+enough_ended k None a b left read = tt
+enough_ended k (Some xs) None b left read = absurd (let none : None ≡ Some (drop k xs) = left.0 in cc)
+enough_ended k (Some xs) (Some ys) None left read = absurd read
+enough_ended k (Some xs) (Some ys) (Some zs) left read = (ap (λ l. Some l) (sym read) ∙ left.0, left.1)
 
 -- what is left of the payload, n octets on
 rest_on : (n m : ℕ) (began old new : Option Pending) → n ≤ m → IsRest m began old → ReadsOn n old new → IsRest (m - n) began new
@@ -39,10 +66,12 @@ read_on s n now bs is within same octets len behind on fault later = record {
   name = cc;
   follow = cc;
   octets = left_on s.read n (payload_of s) _ _ bs is.octets octets len;
+  enough = enough_on s.read n (inside s.began) _ _ bs is.enough octets len;
   behind = λ unless. told-trans _ _ _ (is.behind (λ e. unless (fault ∙ e))) behind;
   pending = λ none. let rest : IsRest (s.whole - s.read - n) s.began.pending now.pending = rest_on n _ _ _ _ (omega arith) (is.pending none) on in
       let fewer : s.whole - (s.read + n) ≡ s.whole - s.read - n = omega arith in rw fewer rest;
   fault = rw fault is.fault;
+  short = rw fault is.short;
   later = omega (arith, is.later, later);
   cause = λ failed. omega (arith, is.cause (sym fault ∙ failed), later);
   sure = is.sure;
@@ -62,13 +91,30 @@ read_failed s now is same octets pending fault later rose = record {
   name = cc;
   follow = cc;
   octets = kept_left s.read (payload_of s) _ _ is.octets octets;
+  enough = enough_kept s.read (inside s.began) _ _ is.enough octets;
   behind = λ unless. absurd (unless fault);
   pending = rw pending is.pending;
   fault = rw fault (inl refl);
+  short = rw fault (inl refl);
   later = omega (arith, is.later, later);
   cause = λ _. omega (arith, is.later, rose);
   sure = is.sure;
 }
+
+cut_is_short : (k n whole : ℕ) (o a b : Option (List ℕ)) (now : Option RecordFault) → 0 < n → k + n ≤ whole → IfSome o (λ xs. (a ≡ Some (drop k xs)) × (k ≤ length xs)) → Consumes a b [] → IsAtEnd b
+    → IfSome now (λ fault. (fault ≡ ReadFault) ⊎ IsShortOf whole o)
+cut_is_short k n whole o a b None some within left read end = tt
+cut_is_short k n whole o a b (Some fault) some within left read end = inr (short o a b left read end)
+  where
+    short : (o a b : Option (List ℕ)) → IfSome o (λ xs. (a ≡ Some (drop k xs)) × (k ≤ length xs)) → Consumes a b [] → IsAtEnd b → IsShortOf whole o
+    short None a b left read end = tt
+    short (Some xs) None b left read end = absurd (let none : None ≡ Some (drop k xs) = left.0 in cc)
+    short (Some xs) (Some ys) None left read end = absurd read
+    short (Some xs) (Some ys) (Some zs) left read end =
+        let back : Some ys ≡ Some (drop k xs) = left.0 in
+        let from : drop k xs ≡ ys = cc in
+        let none : drop k xs ≡ [] = from ∙ read ∙ end in
+        omega (arith, some, within, ap length none, length-drop k xs)
 
 -- a fault that was met before stays; else the input ended inside the payload
 cut_fault : (n cuts more : ℕ) (began pending : Option Pending) (old now : Option RecordFault) → IsMet began cuts old → (cuts ≡ 0 → IsRest n began pending) → 0 < n → IfSome old (λ f. now ≡ Some f)
@@ -119,9 +165,11 @@ read_cut s n cuts now is some within risen same octets end behind kept met later
       name = cc;
       follow = cc;
       octets = ended_left s.read (payload_of s) _ _ is.octets octets;
+      enough = enough_ended s.read (inside s.began) _ _ is.enough octets;
       behind = λ unless. told-trans _ _ _ (is.behind (λ e. unless (kept_fault s.reader.fault now.fault kept e))) behind;
       pending = λ none. absurd (omega arith);
       fault = fault.0;
+      short = cut_is_short s.read n s.whole (inside s.began) _ _ now.fault some within is.enough octets end;
       later = omega (arith, is.later, later);
       cause = λ failed. omega (arith, is.cause (fault.1 failed), later);
       sure = cut_sure s.read n s.whole cuts (inside s.began) _ _ some within is.octets octets end;

@@ -9,7 +9,7 @@ use Rattle.xt_outside.specs.declared.records.RecordFault.TheVariants.{ReadFault}
 use Rattle.xt_io.specs.Readers.{Reading, inside}
 use Rattle.wire_cursor.specs.Standing.{Standing, Stands}
 use Rattle.wire_streams.specs.Marks.{mark_of}
-use Rattle.wire_streams.specs.Streams.{all_of, payload_of, faults_of, IsRest, IsCutOf}
+use Rattle.wire_streams.specs.Streams.{all_of, payload_of, faults_of, IsRest, IsCutOf, IsShortOf}
 use Rattle.wire_streams.specs.declared.cursor.StreamCursor.{StreamCursor}
 
 abbrev pub stream_state : {X : Type 0} {G : Ghosts X} → StreamCursor X G → Standing
@@ -60,9 +60,13 @@ pub record Resumes (n : ℕ) (began : Reading) (at : Standing) (now : Reading) :
   pub behind : now.fault ≢ Some ReadFault → KeepsTold began.ahead now.ahead
   -- what is left of the payload: what is after the octets that are held
   pub octets : IfSome at.ahead (λ octets. inside now ≡ Some (drop n octets))
+  -- the octets of the payload up to there are told where any are: where the input ends inside it, no cursor passes that end
+  pub enough : IfSome (inside began) (λ octets. (inside now ≡ Some (drop (at.place + n) octets)) × (at.place + n ≤ length octets))
   pub pending : now.fault ≡ None → IsRest (at.whole - at.place - n) began.pending now.pending
   -- the fault that the reader answers next: a read failed, and its count rose, or the input ended inside the payload
   pub fault : IfSome now.fault (λ fault. (fault ≡ ReadFault) ⊎ IsCutOf began.pending fault)
+  -- but for a failed read, a fault is met only where the payload is cut
+  pub short : IfSome now.fault (λ fault. (fault ≡ ReadFault) ⊎ IsShortOf at.whole (inside began))
   pub later : began.faults ≤ now.faults
   pub cause : now.fault ≡ Some ReadFault → Rose began.faults now.faults
   -- the cursor's count is that of its reader, but where the input ended inside the payload

@@ -6,7 +6,7 @@ use Rattle.xt_outside.specs.declared.records.Item.{Item}
 use Rattle.xt_outside.specs.declared.records.RecordFault.{RecordFault}
 use Rattle.xt_outside.specs.declared.records.RecordFault.TheVariants.{ReadFault, Truncated, UnknownKind, TooLong, TooMany, OutOfMemory}
 use Rattle.xt_io.specs.declared.bundle.Pending.{Pending}
-use Rattle.xt_io.specs.Readers.{Reading}
+use Rattle.xt_io.specs.Readers.{Reading, inside}
 
 -- one number for two, and for those of a list: no two lists have the same
 unfoldable pub number_of_two : ℕ → ℕ → ℕ
@@ -39,9 +39,13 @@ abbrev pub pending_numbers : Option Pending → List ℕ
 pending_numbers None = []
 pending_numbers (Some pending) = octet_of pending.head.kind ∷ pending.head.at ∷ pending.head.length ∷ pending.rest ∷ []
 
--- The records behind the payload, the payload's head, how many records may follow, and of the source its count of faults and its name.
+abbrev pub octets_numbers : Option (List ℕ) → List ℕ
+octets_numbers None = []
+octets_numbers (Some octets) = 1 ∷ octets
+
+-- What is left of the payload, the records behind the payload, the payload's head, how many records may follow, and of the source its count of faults and its name.
 abbrev pub mark_numbers : Reading → List ℕ
-mark_numbers reader = number_of (bundle_numbers reader.ahead) ∷ number_of (pending_numbers reader.pending) ∷ reader.may_follow ∷ reader.faults ∷ reader.name
+mark_numbers reader = number_of (octets_numbers (inside reader)) ∷ number_of (bundle_numbers reader.ahead) ∷ number_of (pending_numbers reader.pending) ∷ reader.may_follow ∷ reader.faults ∷ reader.name
 
 unfoldable pub mark_of : Reading → ℕ
 mark_of reader = number_of (mark_numbers reader)

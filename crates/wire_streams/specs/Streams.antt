@@ -1,5 +1,5 @@
 -- What is read of a payload, and what its reader still gives (this profile's own).
-use Rattle.std.specs.Prelude.{◌≡◌, ◌≢◌, ℕ, ◌+◌, ◌-◌, ◌≤◌, ◌⊎◌, ◌==◌, List, length, drop, take, if◌then◌else◌, Option, Some, None, IfSome, Result, Ok, Err}
+use Rattle.std.specs.Prelude.{◌≡◌, ◌≢◌, ℕ, ◌+◌, ◌-◌, ◌<◌, ◌≤◌, ◌⊎◌, ◌==◌, List, length, drop, take, if◌then◌else◌, Option, Some, None, IfSome, Result, Ok, Err}
 use Rattle.xt_outside.specs.Outside.{KeepsTold, Rose}
 use Rattle.xt_outside.specs.declared.records.RecordFault.{RecordFault}
 use Rattle.xt_outside.specs.declared.records.RecordFault.TheVariants.{ReadFault, Truncated}
@@ -57,15 +57,23 @@ abbrev pub IsMet : Option Pending → ℕ → Option RecordFault → Type 0
 IsMet pending cuts None = cuts ≡ 0
 IsMet pending cuts (Some fault) = (fault ≡ ReadFault) ⊎ IsCutOf pending fault
 
+-- the input ended before the payload's end, where it is told
+abbrev pub IsShortOf : ℕ → Option (List ℕ) → Type 0
+IsShortOf n told = IfSome told (λ octets. length octets < n)
+
 -- What holds of a payload and its reader.
 pub record IsRead (s : Streaming) : Type 0 where
   pub within : s.read ≤ s.whole
   pub name : s.reader.name ≡ s.began.name
   pub follow : s.reader.may_follow ≡ s.began.may_follow
   pub octets : IfSome (payload_of s) (λ octets. inside s.reader ≡ Some (drop s.read octets))
+  -- what was read is there, where it is told: a payload that is cut is not read to its end
+  pub enough : IfSome (inside s.began) (λ octets. (inside s.reader ≡ Some (drop s.read octets)) × (s.read ≤ length octets))
   pub behind : s.reader.fault ≢ Some ReadFault → KeepsTold s.began.ahead s.reader.ahead
   pub pending : s.cuts ≡ 0 → IsRest (s.whole - s.read) s.began.pending s.reader.pending
   pub fault : IsMet s.began.pending s.cuts s.reader.fault
+  -- but for a failed read, a fault is met only where the payload is cut
+  pub short : IfSome s.reader.fault (λ fault. (fault ≡ ReadFault) ⊎ IsShortOf s.whole (inside s.began))
   pub later : s.began.faults ≤ s.reader.faults
   pub cause : s.reader.fault ≡ Some ReadFault → Rose s.began.faults s.reader.faults
   -- a payload that is told whole is not cut

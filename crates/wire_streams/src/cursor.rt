@@ -4,6 +4,7 @@ ghost use Rattle.wire_streams.specs.Streams.{payload_of, stopped_result};
 
 use crate::payload::Payload;
 use wire_cursor::{Cursor, CutFault, Outer};
+use wire_numbers::padding;
 use xt_io::BundleReader;
 use xt_outside::{Failed, Source};
 use xt_shapes::Order;
@@ -38,7 +39,7 @@ pub struct StreamCursor<S: Source> {
 }
 
 impl<S: Source> StreamCursor<S> {
-    ghost use Rattle.std.specs.Prelude.{◌≡◌, ◌≤◌, ◌+◌, min, length, take, IfSome, OnOk, OnErr};
+    ghost use Rattle.std.specs.Prelude.{◌≡◌, ◌≤◌, ◌+◌, ◌-◌, min, length, take, IfSome, OnOk, OnErr};
     ghost use Rattle.wire_cursor.specs.Standing.{Moved, Stayed, Stopped};
     ghost use Rattle.wire_streams.specs.Streams.{IsUnread};
     ghost use Rattle.wire_streams.specs.Cursors.{stream_state, stream_start, held_count, Ends};
@@ -61,8 +62,9 @@ impl<S: Source> StreamCursor<S> {
         }
     }
 
-    /// Gives the reader back, with the payload after the cursor's place still left. Only right after a `peek` the octets of it that
-    /// were not taken or passed over are gone as well. It takes no memory.
+    /// Gives the reader back, with the payload after the cursor's place still left, but for the octets that are held: a `peek` holds four,
+    /// and each of them that is taken or passed over since is held no more. So none is where no `peek` came, or four octets were gone on
+    /// since. It takes no memory.
     pub fn end(self) -> BundleReader<S>
         ensures { Ends (held_count self) (stream_state self) result }
     {
@@ -101,6 +103,7 @@ impl<S: Source> StreamCursor<S> {
         ensures moved { OnOk result (Moved (length into.new) (stream_state self.old) (stream_state self.new)) }
         ensures stopped { OnErr result (Stopped (stream_state self.old) (stream_state self.new)) }
         ensures octets { OnOk result (IfSome (stream_state self.old).ahead (λ octets. into.new ≡ take (length into.new) octets)) }
+        ensures held { held_count self.new ≡ 0 }
     {
         let before = self.payload.read();
         let outcome = self.payload.fill(into);
@@ -114,6 +117,7 @@ impl<S: Source> StreamCursor<S> {
         ensures moved { OnOk result (Moved (length into.new) (stream_state self.old) (stream_state self.new)) }
         ensures stopped { OnErr result (Stopped (stream_state self.old) (stream_state self.new)) }
         ensures octets { OnOk result (IfSome (stream_state self.old).ahead (λ octets. into.new ≡ take (length into.new) octets)) }
+        ensures held { OnOk result (held_count self.new ≡ held_count self.old - length into.new) }
     {
         let count = self.take_held(into);
         if count == into.len() {
@@ -145,6 +149,7 @@ impl<S: Source> StreamCursor<S> {
         requires { self.old.place + count ≤ self.old.end }
         ensures moved { OnOk result (Moved count (stream_state self.old) (stream_state self.new)) }
         ensures stopped { OnErr result (Stopped (stream_state self.old) (stream_state self.new)) }
+        ensures held { OnOk result (held_count self.new ≡ held_count self.old - count) }
     {
         let mut chunk = [0u8; CHUNK];
         let mut left = count;
@@ -168,7 +173,10 @@ fn stopped(outcome: Result<(), Failed>) -> Result<(), CutFault>
 }
 
 impl<S: Source> Cursor for StreamCursor<S> {
-    ghost use Rattle.wire_streams.specs.Cursors.{stream_state, stream_stands};
+    ghost use Rattle.std.specs.Prelude.{◌≡◌, ◌≤◌, ◌-◌, length, min, OnOk};
+    ghost use Rattle.wire_numbers.specs.Units.{IsUnit};
+    ghost use Rattle.wire_cursor.specs.Standing.{GoesOn, Gives, IsKept, IsEntered, HasEnd, HasOrigin, HasOrder, pad_of};
+    ghost use Rattle.wire_streams.specs.Cursors.{stream_state, stream_stands, held_count};
 
     ghost state = { stream_state };
 
@@ -186,13 +194,21 @@ impl<S: Source> Cursor for StreamCursor<S> {
         self.order
     }
 
-    fn set_order(&mut self, order: Order) {
+    fn set_order(&mut self, order: Order)
+        ensures order { HasOrder order (stream_state self.old) (stream_state self.new) }
+        ensures held { held_count self.new ≡ held_count self.old }
+    {
         self.order = order;
     }
 
-    fn align(&mut self, to: u32, most: u32) -> Result<(), CutFault> {
-        let unit = u64::from(to.min(most));
-        let pad = (unit - (self.place - self.origin) % unit) % unit;
+    /// Octets that are held after a `peek` are passed first, here and in each call that goes on.
+    fn align(&mut self, to: u32, most: u32) -> Result<(), CutFault>
+        requires to { IsUnit to }
+        requires most { IsUnit most }
+        ensures moves { GoesOn (pad_of (min to most) (stream_state self.old)) (stream_state self.old).region_end (stream_state self.old) (stream_state self.new) result }
+        ensures held { OnOk result (held_count self.new ≡ held_count self.old - pad_of (min to most) (stream_state self.old)) }
+    {
+        let pad = padding(to.min(most), self.place - self.origin);
         if self.end - self.place < pad {
             return Err(CutFault::Short { at: self.end });
         }
@@ -200,7 +216,12 @@ impl<S: Source> Cursor for StreamCursor<S> {
         stopped(self.advance(&mut octets[..pad as usize]))
     }
 
-    fn take(&mut self, into: &mut [u8]) -> Result<(), CutFault> {
+    fn take(&mut self, into: &mut [u8]) -> Result<(), CutFault>
+        ensures moves { GoesOn (length into.new) (stream_state self.old).place (stream_state self.old) (stream_state self.new) result }
+        ensures octets { Gives (stream_state self.old) into.new result }
+        ensures short { IsKept into.old into.new result }
+        ensures held { OnOk result (held_count self.new ≡ held_count self.old - length into.new) }
+    {
         if self.end - self.place < into.len() as u64 {
             return Err(CutFault::Short { at: self.place });
         }
@@ -217,14 +238,20 @@ impl<S: Source> Cursor for StreamCursor<S> {
         }
     }
 
-    fn pass(&mut self, count: u64) -> Result<(), CutFault> {
+    fn pass(&mut self, count: u64) -> Result<(), CutFault>
+        ensures moves { GoesOn count (stream_state self.old).place (stream_state self.old) (stream_state self.new) result }
+        ensures held { OnOk result (held_count self.new ≡ held_count self.old - count) }
+    {
         if self.end - self.place < count {
             return Err(CutFault::Short { at: self.place });
         }
         stopped(self.advance_over(count))
     }
 
-    fn enter(&mut self, length: u64) -> Result<Outer, CutFault> {
+    fn enter(&mut self, length: u64) -> Result<Outer, CutFault>
+        ensures entered { IsEntered length (stream_state self.old) (stream_state self.new) result }
+        ensures held { held_count self.new ≡ held_count self.old }
+    {
         if self.end - self.place < length {
             return Err(CutFault::Short { at: self.place });
         }
@@ -233,17 +260,30 @@ impl<S: Source> Cursor for StreamCursor<S> {
         Ok(outer)
     }
 
-    fn leave(&mut self, outer: Outer) {
+    fn leave(&mut self, outer: Outer)
+        requires ahead { (stream_state self.old).place ≤ outer.end }
+        requires within { outer.end ≤ (stream_state self.old).whole }
+        ensures end { HasEnd outer.end (stream_state self.old) (stream_state self.new) }
+        ensures held { held_count self.new ≡ held_count self.old }
+    {
         self.end = outer.end;
     }
 
-    fn restart(&mut self) -> u64 {
+    fn restart(&mut self) -> u64
+        ensures origin { result ≡ (stream_state self.old).origin }
+        ensures value { HasOrigin (stream_state self.old).place (stream_state self.old) (stream_state self.new) }
+        ensures held { held_count self.new ≡ held_count self.old }
+    {
         let old = self.origin;
         self.origin = self.place;
         old
     }
 
-    fn resume(&mut self, origin: u64) {
+    fn resume(&mut self, origin: u64)
+        requires { origin ≤ (stream_state self.old).place }
+        ensures origin { HasOrigin origin (stream_state self.old) (stream_state self.new) }
+        ensures held { held_count self.new ≡ held_count self.old }
+    {
         self.origin = origin;
     }
 }

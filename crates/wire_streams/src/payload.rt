@@ -31,6 +31,7 @@ impl<S: Source> Model for Payload<S> {
 
 impl<S: Source> Payload<S> {
     /// The payload of this length, of which nothing was read.
+    #[tactic(auto, using(crate::proofs::Streaming::enough_begins))]
     pub(crate) fn new(reader: BundleReader<S>, length: u32) -> Payload<S>
         requires { IsUnread length reader }
         ensures { result ≡ record { began = reader; reader = reader; read = 0; whole = length; cuts = 0 } }

@@ -7,7 +7,8 @@ use Rattle.std.proofs.Math.Nat.{div-one, div-div-eq-div-mul, pow-suc}
 use Rattle.xt_shapes.specs.declared.leaves.Order.{Order}
 use Rattle.xt_shapes.specs.declared.leaves.Order.TheVariants.{Big, Little}
 use Rattle.xcdr_model.specs.Numbers.{low_octets, octets, raw}
-use Rattle.wire_writer.specs.Writing.{IsUnit}
+use Rattle.wire_numbers.specs.Units.{IsUnit}
+use Rattle.wire_numbers.proofs.UnitSteps.{unit_small}
 
 length-low_octets : (k n : ℕ) → length (low_octets k n) ≡ k
 length-low_octets zero n = refl
@@ -17,9 +18,6 @@ pub length-octets : (o : Order) (k n : ℕ) → length (octets o k n) ≡ k
 unfolding octets
 length-octets Little k n = length-low_octets k n
 length-octets Big k n = length-reverse (low_octets k n) ∙ length-low_octets k n
-
-pub unit_small : (u : ℕ) → IsUnit u → u ≤ 8
-unit_small u is = elim is [ inl e ↦ omega (arith, e) | inr more ↦ elim more [ inl e ↦ omega (arith, e) | inr more2 ↦ elim more2 [ inl e ↦ omega (arith, e) | inr e ↦ omega (arith, e) ] ] ]
 
 -- ---- from the low end
 

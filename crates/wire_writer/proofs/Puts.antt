@@ -10,7 +10,8 @@ use Rattle.xt_outside.specs.declared.octets.Failed.{Failed}
 use Rattle.xcdr_model.specs.FixedSpelling.{Fixed, nothing, number_fixed, then_fixed}
 use Rattle.xcdr_model.specs.Numbers.{octets, padding}
 use Rattle.wire_writer.specs.Written.{Written}
-use Rattle.wire_writer.specs.Writing.{IsUnit, IsAt, padding_fixed, Puttable, Stuck, Put, Keeps, Puts, PutsWithin}
+use Rattle.wire_numbers.specs.Units.{IsUnit}
+use Rattle.wire_writer.specs.Writing.{IsAt, padding_fixed, Puttable, Stuck, Put, Keeps, Puts, PutsWithin}
 use Rattle.wire_writer.proofs.NumberSteps.{length-octets}
 
 -- ---- places

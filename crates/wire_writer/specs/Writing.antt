@@ -1,14 +1,10 @@
 -- What it means that a call on a writer writes a spelling (this profile's own; alignment is that of DDS-XTypes 1.3, 7.4).
-use Rattle.std.specs.Prelude.{◌≡◌, ℕ, ◌+◌, ◌^◌, ◌%◌, ◌≤◌, ◌<◌, ◌⊎◌, List, length, replicate, Result, Ok, Err}
+use Rattle.std.specs.Prelude.{◌≡◌, ℕ, ◌+◌, ◌^◌, ◌%◌, ◌≤◌, ◌<◌, List, length, replicate, Result, Ok, Err}
 use Rattle.xt_outside.specs.Outside.{Rose, AppendsAll, AppendsPrefix}
 use Rattle.xt_outside.specs.declared.octets.Failed.{Failed}
 use Rattle.xcdr_model.specs.FixedSpelling.{Fixed}
 use Rattle.xcdr_model.specs.Numbers.{padding}
 use Rattle.wire_writer.specs.Written.{Written}
-
--- the sizes of numbers, and what they are aligned to
-abbrev pub IsUnit : ℕ → Type 0
-IsUnit n = (n ≡ 1) ⊎ ((n ≡ 2) ⊎ ((n ≡ 4) ⊎ (n ≡ 8)))
 
 -- zeros up to the next multiple of m
 abbrev pub padding_fixed : ℕ → Fixed

@@ -2,8 +2,9 @@
 ghost use Rattle.std.specs.Prelude.{◌≡◌, take, reverse};
 ghost use Rattle.xcdr_model.specs.Numbers as spec;
 ghost use Rattle.xcdr_model.specs.Numbers.{octets};
-ghost use Rattle.wire_writer.specs.Writing.{IsUnit};
+ghost use Rattle.wire_numbers.specs.Units.{IsUnit};
 
+use byteorder::{ByteOrder, LittleEndian};
 use xt_shapes::Order;
 
 /// The `size` low octets of a number in the order, at the front. `size` is 1, 2, 4 or 8.
@@ -33,10 +34,13 @@ fn low_octets(size: u32, number: u128) -> [u8; 16]
     requires { IsUnit size }
     ensures { take size result ≡ spec.low_octets size number }
 {
-    number.to_le_bytes()
+    let mut octets = [0u8; 16];
+    LittleEndian::write_u128(&mut octets, number);
+    octets
 }
 
 /// A number that may have a sign as the number of its octets, in two's complement. `size` is 1, 2, 4 or 8.
+#[inline(always)]
 pub fn raw(size: u32, number: i128) -> u128
     requires { IsUnit size }
     ensures { result ≡ spec.raw size number }

@@ -1,10 +1,12 @@
 ghost use Rattle.std.specs.Prelude.{◌≡◌, ◌+◌, ◌%◌, ◌^◌, length, min};
 ghost use Rattle.xcdr_model.specs.Numbers.{octets};
 ghost use Rattle.xcdr_model.specs.FixedSpelling.{number_fixed};
-ghost use Rattle.wire_writer.specs.Writing.{Puts, IsUnit, padding_fixed};
+ghost use Rattle.wire_numbers.specs.Units.{IsUnit};
+ghost use Rattle.wire_writer.specs.Writing.{Puts, padding_fixed};
 
 use crate::digits::octets_of;
 use std::marker::Model;
+use wire_numbers::padding;
 use xt_outside::{Failed, Sink, write_whole};
 use xt_shapes::Order;
 
@@ -101,8 +103,7 @@ impl<K: Sink> Writer<K> {
         requires { IsUnit to }
         ensures { Puts (padding_fixed to) self.old self.new result }
     {
-        let unit = u64::from(to);
-        let pad = (unit - self.place.wrapping_sub(self.origin) % unit) % unit;
+        let pad = padding(to, self.place.wrapping_sub(self.origin));
         let zeros = [0u8; 8];
         self.put(&zeros[..pad as usize])
     }

@@ -21,7 +21,7 @@ use Rattle.wire_cursor.specs.Decoding.{spot}
 use Rattle.wire_cursor.proofs.Ahead.{Ahead, begins, rephrased}
 use Rattle.xcdr_two_steps.specs.Bounds.{counted, whether_at}
 use Rattle.xcdr_two_steps.proofs.ByIndex.{next_shape, none_left}
-use Rattle.xcdr_two_reader.specs.Parts.{items_read, entry_at, entries_read, if_there, member_part, slot_read}
+use Rattle.xcdr_two_reader.specs.Parts.{items_read, entry_at, entries_read, if_there, member_part, slot_read, slot_more}
 use Rattle.xcdr_two_reader.specs.Insides.{members_read}
 use Rattle.xcdr_two_reader.proofs.Gathering.{bind_bind, bind_ok, each_bind, rest_parts, next_part, no_part, items_start, entries_start}
 use Rattle.xcdr_two_reader.proofs.InOrder.{rest_members, slot_part, next_member, no_member, members_start}
@@ -118,7 +118,7 @@ members_from cut ms i g = rest_members cut (members_shape (drop i ms)) g
 abbrev made_of : {P A : Type 0} → (P → A) → P × Spot → Reading A
 made_of h x = Ok (h x.0, x.1)
 
-bind_slot : {A B : Type 0} (r : Reading (Option Part)) (h : Option Part → A) (G : A → Spot → Reading B) → (r >>= λ x. G (h x.0) x.1) ≡ ((r >>= made_of h) >>= at_spot G)
+bind_slot : {P A B : Type 0} (r : Reading P) (h : P → A) (G : A → Spot → Reading B) → (r >>= λ x. G (h x.0) x.1) ≡ ((r >>= made_of h) >>= at_spot G)
 bind_slot r h G = sym (bind_bind r (made_of h) (at_spot G) ∙ each_bind r (λ x. made_of h x >>= at_spot G) (λ x. G (h x.0) x.1) (λ x. bind_ok (h x.0, x.1) (at_spot G)))
 
 pub member_next : (cut : Bool) (ms : List declared.Member) (i : ℕ) (m : declared.Member) (g : Option (List Body) × Bool) {f : Order → Spot → Reading Part} {a b : Standing} → i < length ms → m ≡ get_or ms i m → Ahead f (members_from cut ms i g) a b
@@ -131,6 +131,15 @@ member_next cut ms i m g {f} {a} {b} within is u =
     subst goal (sym is) (rephrased (members_from cut ms i g) (λ o s. slot_read cut h t o s >>= λ x. members_from cut ms (i + 1) (and_slot g x.0) o x.1) u
     (λ xs e. ap (λ ns. rest_members cut ns g b.order (spot b xs)) (next_shape ms i m within) ∙ next_member b.order cut h t (members_shape (drop (i + 1) ms)) g (spot b xs)
     ∙ bind_slot (member_part cut h.optional t b.order (spot b xs)) (slot_part h t) (λ x s. members_from cut ms (i + 1) (and_slot g x) b.order s)))
+
+-- the same, with the slot taken
+pub more_next : (cut : Bool) (ms : List declared.Member) (i : ℕ) (m : declared.Member) (g : Option (List Body) × Bool) {f : Order → Spot → Reading Part} {a b : Standing} → i < length ms → m ≡ get_or ms i m → Ahead f (members_from cut ms i g) a b
+    → Ahead f (λ o s. slot_more cut (member_head m) (type_shape m.ty) g o s >>= λ x. members_from cut ms (i + 1) x.0 o x.1) a b
+more_next cut ms i m g {b = b} within is u =
+    let h = member_head m in
+    let t = type_shape m.ty in
+    rephrased (λ o s. slot_read cut h t o s >>= λ x. members_from cut ms (i + 1) (and_slot g x.0) o x.1) (λ o s. slot_more cut h t g o s >>= λ x. members_from cut ms (i + 1) x.0 o x.1) (member_next cut ms i m g within is u)
+    (λ xs e. bind_slot (slot_read cut h t b.order (spot b xs)) (and_slot g) (λ x s. members_from cut ms (i + 1) x b.order s))
 
 pub members_none : (cut : Bool) (ms : List declared.Member) (i : ℕ) (g : Option (List Body) × Bool) {f : Order → Spot → Reading Part} {a b : Standing} → length ms ≤ i → Ahead f (members_from cut ms i g) a b → Ahead f (λ o s. Ok (structure_of g, s)) a b
 members_none cut ms i g {b = b} le u = rephrased (members_from cut ms i g) (λ o s. Ok (structure_of g, s)) u (λ xs e. ap (λ ns. rest_members cut ns g b.order (spot b xs)) (none_left ms i le) ∙ no_member b.order cut g (spot b xs))
@@ -151,15 +160,32 @@ sound_more ms i m ok within = (and_parts _ _ (ap sound_members (sym (next_shape 
 abbrev pub slot_behind : Head → Shape → Bool → Order → Spot → Reading (Option Body × Bool)
 slot_behind h t b o s = if_there t b o s >>= λ x. Ok (slot_part h t x.0, x.1)
 
-pub slot_begin : (cut : Bool) (h : Head) (t : Shape) (a : Standing) → Ahead (slot_read cut h t) (λ o s. whether_at cut h.optional o s >>= λ b. slot_behind h t b.0 o b.1) a a
-slot_begin cut h t a = begins (slot_read cut h t) _ a (λ s. bind_bind (whether_at cut h.optional a.order s) (λ b. if_there t b.0 a.order b.1) (λ x. Ok (slot_part h t x.0, x.1)))
+abbrev taken : Option (List Body) × Bool → (Option Body × Bool) × Spot → Reading (Option (List Body) × Bool)
+taken g x = Ok (and_slot g x.0, x.1)
 
-pub slot_absent : (h : Head) (t : Shape) {f : Order → Spot → Reading (Option Body × Bool)} {a b : Standing} → Ahead f (slot_behind h t false) a b → Ahead f (λ o s. Ok (slot_part h t None, s)) a b
-slot_absent h t {b = b} u = rephrased (slot_behind h t false) (λ o s. Ok (slot_part h t None, s)) u (λ xs e. bind_ok (None, spot b xs) (λ x. Ok (slot_part h t x.0, x.1)))
+abbrev pub more_behind : Head → Shape → Option (List Body) × Bool → Bool → Order → Spot → Reading (Option (List Body) × Bool)
+more_behind h t g b o s = slot_behind h t b o s >>= taken g
 
-abbrev pub slot_made : Head → Shape → Part → Order → Spot → Reading (Option Body × Bool)
-slot_made h t x o s = Ok (slot_part h t (Some x), s)
+pub more_begin : (cut : Bool) (h : Head) (t : Shape) (g : Option (List Body) × Bool) (a : Standing) → Ahead (slot_more cut h t g) (λ o s. whether_at cut h.optional o s >>= λ b. more_behind h t g b.0 o b.1) a a
+more_begin cut h t g a = begins (slot_more cut h t g) _ a (λ s.
+    ap (λ (r : Reading (Option Body × Bool)). r >>= taken g) (bind_bind (whether_at cut h.optional a.order s) (λ b. if_there t b.0 a.order b.1) (λ x. Ok (slot_part h t x.0, x.1)))
+    ∙ bind_bind (whether_at cut h.optional a.order s) (λ b. slot_behind h t b.0 a.order b.1) (taken g))
 
-pub slot_there : (h : Head) (t : Shape) {f : Order → Spot → Reading (Option Body × Bool)} {a b : Standing} → Ahead f (slot_behind h t true) a b → Ahead f (λ o s. read o t s >>= λ x. slot_made h t x.0 o x.1) a b
-slot_there h t {b = b} u = rephrased (slot_behind h t true) (λ o s. read o t s >>= λ x. slot_made h t x.0 o x.1) u
-    (λ xs e. bind_bind (read b.order t (spot b xs)) (λ x. Ok (Some x.0, x.1)) (λ x. Ok (slot_part h t x.0, x.1)) ∙ each_bind (read b.order t (spot b xs)) (λ x. Ok (Some x.0, x.1) >>= λ x. Ok (slot_part h t x.0, x.1)) (λ x. Ok (slot_part h t (Some x.0), x.1)) (λ x. bind_ok (Some x.0, x.1) (λ y. Ok (slot_part h t y.0, y.1))))
+pub more_absent : (h : Head) (t : Shape) (g : Option (List Body) × Bool) {f : Order → Spot → Reading (Option (List Body) × Bool)} {a b : Standing} → Ahead f (more_behind h t g false) a b → Ahead f (λ o s. Ok (and_slot g (slot_part h t None), s)) a b
+more_absent h t g {b = b} u = rephrased (more_behind h t g false) (λ o s. Ok (and_slot g (slot_part h t None), s)) u
+    (λ xs e. ap (λ (r : Reading (Option Body × Bool)). r >>= taken g) (bind_ok (None, spot b xs) (λ x. Ok (slot_part h t x.0, x.1))) ∙ bind_ok (slot_part h t None, spot b xs) (taken g))
+
+abbrev slot_made : Head → Shape → Part × Spot → Reading (Option Body × Bool)
+slot_made h t x = Ok (slot_part h t (Some x.0), x.1)
+
+slot_there : (h : Head) (t : Shape) (o : Order) (s : Spot) → slot_behind h t true o s ≡ (read o t s >>= slot_made h t)
+slot_there h t o s = bind_bind (read o t s) (λ x. Ok (Some x.0, x.1)) (λ x. Ok (slot_part h t x.0, x.1)) ∙ each_bind (read o t s) (λ x. Ok (Some x.0, x.1) >>= λ x. Ok (slot_part h t x.0, x.1)) (slot_made h t) (λ x. bind_ok (Some x.0, x.1) (λ y. Ok (slot_part h t y.0, y.1)))
+
+abbrev pub more_made : Head → Shape → Option (List Body) × Bool → Part → Order → Spot → Reading (Option (List Body) × Bool)
+more_made h t g x o s = Ok (and_slot g (slot_part h t (Some x)), s)
+
+pub more_there : (h : Head) (t : Shape) (g : Option (List Body) × Bool) {f : Order → Spot → Reading (Option (List Body) × Bool)} {a b : Standing} → Ahead f (more_behind h t g true) a b → Ahead f (λ o s. read o t s >>= λ x. more_made h t g x.0 o x.1) a b
+more_there h t g {b = b} u = rephrased (more_behind h t g true) (λ o s. read o t s >>= λ x. more_made h t g x.0 o x.1) u
+    (λ xs e. ap (λ (r : Reading (Option Body × Bool)). r >>= taken g) (slot_there h t b.order (spot b xs))
+    ∙ bind_bind (read b.order t (spot b xs)) (slot_made h t) (taken g)
+    ∙ each_bind (read b.order t (spot b xs)) (λ x. slot_made h t x >>= taken g) (λ x. more_made h t g x.0 b.order x.1) (λ x. bind_ok (slot_part h t (Some x.0), x.1) (taken g)))

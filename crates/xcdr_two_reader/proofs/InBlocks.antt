@@ -200,6 +200,7 @@ pub stay : {f k : Order → Spot → Reading Part} {a b c : Standing} → Ahead 
 stay {f} {k} {a} {b} {c} u s = record {
   within = within_trans u.within s.within;
   later = omega (arith, u.later, s.place);
+  inside = λ h. omega (arith, u.inside h, s.place);
   told = λ xs e.
       let (there, same) = u.told xs e in
       let behind : after a b xs ≡ after a c xs = ap (λ (n : ℕ). drop (n - a.place) xs) (sym s.place) in

@@ -9,7 +9,7 @@ use Rattle.xt_shapes.specs.Vals.{Slot}
 use Rattle.xcdr_model.specs.Reading.{Spot, Reading, ◌>>=◌, number_at, each_at, filling}
 use Rattle.xcdr_model.specs.Projection.{Part, Body, settled_case, slot_from, whole_items, whole_entries, whole_union, disc_built}
 use Rattle.xcdr_model.specs.Xcdr2Reading.{read, read_case, done, scalar_at, selected_at, rest_selected}
-use Rattle.settled_parts.specs.Members.{built_in, unseen_in}
+use Rattle.settled_parts.specs.Members.{built_in, unseen_in, and_slot}
 use Rattle.xcdr_two_steps.specs.Bounds.{counted, whether_at}
 
 -- ---- collections
@@ -38,6 +38,10 @@ each_member o cut (member h t ms) s = member_part cut h.optional t o s >>= λ x.
 
 abbrev pub slot_read : Bool → Head → Shape → Order → Spot → Reading (Option Slot × Bool)
 slot_read cut h t o s = member_part cut h.optional t o s >>= λ x. Ok ((slot_from h t (built_in x.0), unseen_in x.0), x.1)
+
+-- the slots of the members before, and that of one more
+abbrev pub slot_more : Bool → Head → Shape → Option (List Slot) × Bool → Order → Spot → Reading (Option (List Slot) × Bool)
+slot_more cut h t g o s = slot_read cut h t o s >>= λ x. Ok (and_slot g x.0, x.1)
 
 -- ---- unions
 

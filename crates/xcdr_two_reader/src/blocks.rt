@@ -1,14 +1,15 @@
 // Collections of primitives, whose numbers are read many at a time.
-ghost use Rattle.std.specs.Prelude.{◌≡◌, ◌≤◌, ◌<◌, ◌+◌, ◌*◌, ◌^◌, true, length, Some, OnOk};
+ghost use Rattle.std.specs.Prelude.{◌≡◌, ◌≤◌, ◌<◌, ◌+◌, ◌*◌, ◌^◌, true, false, length, Some, OnOk};
+ghost use Rattle.xt_shapes.specs.Vals.{int};
+ghost use Rattle.xcdr_model.specs.Projection.{got};
 ghost use Rattle.type_trees.specs.Bridge.{type_shape};
 ghost use Rattle.xt_shapes.specs.Defaults.{default_of};
 ghost use Rattle.xt_shapes.specs.Shape as model;
 ghost use Rattle.xt_shapes.specs.Sizes as sizes;
-ghost use Rattle.xcdr_model.specs.Numbers as numbers;
 ghost use Rattle.settled_parts.specs.Items.{items_of};
 ghost use Rattle.settled_parts.specs.Parts.{part_of};
 ghost use Rattle.wire_cursor.specs.Decoding.{Decodes};
-ghost use Rattle.wire_cursor.specs.Standing.{IsUnit, Stayed};
+ghost use Rattle.wire_cursor.specs.Standing.{Stayed};
 ghost use Rattle.xcdr_two_reader.specs.Blocks.{IsBlock, number_part, and_numbers, block_read};
 ghost use Rattle.xcdr_two_reader.specs.Parts.{items_read};
 
@@ -16,33 +17,13 @@ use crate::leaves::read_prim_part;
 use settled_parts::{Items, Part};
 use std::alloc::Global;
 use type_trees::Elem;
-use wire_cursor::{Cursor, DecodeFault, number, read_octets};
-use wire_scalars::size_of;
+use wire_cursor::{Cursor, DecodeFault, read_octets};
+use wire_numbers::{is_boolean, number, prim_size, prim_value};
 use xt_lists::OutOfMemory;
 use xt_shapes::{Order, Prim};
 
 // The octets that are read at once.
 const BLOCK: usize = 512;
-
-fn is_boolean(prim: Prim) -> bool
-    ensures { result ≡ sizes.is_boolean prim }
-{
-    match prim {
-        Prim::Boolean => true,
-        Prim::Byte => false,
-        Prim::Int8 => false,
-        Prim::Uint8 => false,
-        Prim::Int16 => false,
-        Prim::Uint16 => false,
-        Prim::Int32 => false,
-        Prim::Uint32 => false,
-        Prim::Int64 => false,
-        Prim::Uint64 => false,
-        Prim::Float32 => false,
-        Prim::Float64 => false,
-        Prim::Char8 => false,
-    }
-}
 
 // How many numbers of this size there are in so many octets and in a block, at most.
 #[tactic(auto, using(crate::proofs::InBlocks::quotient_fits))]
@@ -65,57 +46,19 @@ fn block_size<C: Cursor>(cursor: &mut C, prim: Prim, most: u64) -> u64
     let origin = cursor.restart();
     cursor.resume(origin);
     let place = cursor.place();
-    let size = size_of(prim);
+    let size = prim_size(prim);
     if is_boolean(prim) || (place - origin) % u64::from(size.min(4)) != 0 {
         return 0;
     }
     numbers_in(cursor.region_end() - place, size, most)
 }
 
-// The number with sign that has so many octets.
-#[tactic(auto, using(wire_scalars::proofs::Signs::sign_rules))]
-fn with_sign(size: u32, greatest: u64, number: u64) -> i128
-    requires size { IsUnit size }
-    requires greatest { greatest + 1 ≡ 256 ^ size }
-    requires most { number ≤ greatest }
-    ensures { result ≡ numbers.with_sign size true number }
-{
-    if number > greatest / 2 {
-        -1 - i128::from(greatest - number)
-    } else {
-        i128::from(number)
-    }
-}
-
-// The value of a primitive whose octets are this number.
-#[tactic(auto, using(wire_scalars::proofs::Signs::sign_rules))]
-fn value_of(prim: Prim, number: u64) -> i128
-    requires { number < 256 ^ sizes.size prim }
-    ensures { result ≡ numbers.with_sign (sizes.size prim) (sizes.is_signed prim) number }
-{
-    match prim {
-        Prim::Int8 => with_sign(1, 0xFF, number),
-        Prim::Int16 => with_sign(2, 0xFFFF, number),
-        Prim::Int32 => with_sign(4, 0xFFFF_FFFF, number),
-        Prim::Int64 => with_sign(8, 0xFFFF_FFFF_FFFF_FFFF, number),
-        Prim::Boolean => i128::from(number),
-        Prim::Byte => i128::from(number),
-        Prim::Uint8 => i128::from(number),
-        Prim::Uint16 => i128::from(number),
-        Prim::Uint32 => i128::from(number),
-        Prim::Uint64 => i128::from(number),
-        Prim::Float32 => i128::from(number),
-        Prim::Float64 => i128::from(number),
-        Prim::Char8 => i128::from(number),
-    }
-}
-
-// What is read of a primitive whose octets these are.
-fn part_in(prim: Prim, order: Order, octets: &[u8]) -> Part
+// The value of a primitive whose octets these are.
+fn number_in(prim: Prim, order: Order, octets: &[u8]) -> i128
     requires { length octets.now ≡ sizes.size prim }
-    ensures { part_of result ≡ number_part order prim octets.now }
+    ensures { (got (int result), false) ≡ number_part order prim octets.now }
 {
-    Part::number(value_of(prim, number(order, octets)))
+    prim_value(prim, number(order, octets))
 }
 
 // Takes as many numbers, whose octets these are.
@@ -132,11 +75,11 @@ fn take_numbers(
     requires { length octets.now ≡ many * sizes.size prim }
     ensures { OnOk result (items_of items.new ≡ and_numbers bound elem.now.tc (default_of (type_shape elem.now.ty)) order prim many (items_of items.old) octets.now) }
 {
-    let size = size_of(prim) as usize;
+    let size = prim_size(prim) as usize;
     let mut rest = octets;
     for turn in 0..many {
         let (first, more) = rest.split_at(size);
-        items.take(alloc, bound, elem, part_in(prim, order, first))?;
+        items.take_number(bound, number_in(prim, order, first))?;
         rest = more;
     }
     Ok(())
@@ -184,7 +127,7 @@ fn read_block<C: Cursor>(
     ensures { Decodes (λ u. items_of items.new) (block_read bound elem.now.tc (default_of (type_shape elem.now.ty)) prim many (items_of items.old)) (C.state cursor.old) (C.state cursor.new) result }
 {
     let mut block = [0u8; BLOCK];
-    let count = (many * u64::from(size_of(prim))) as usize;
+    let count = (many * u64::from(prim_size(prim))) as usize;
     read_through(
         alloc,
         elem,

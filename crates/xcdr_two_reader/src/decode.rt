@@ -6,8 +6,8 @@ ghost use Rattle.type_trees.specs.Bridge.{shape, type_shape, members_shape, memb
 ghost use Rattle.xcdr_model.specs.Premises.{sound, distinct_members, sound_members, sound_cases};
 ghost use Rattle.xcdr_model.specs.Xcdr2Reading.{read, read_named};
 ghost use Rattle.xcdr_model.specs.Reading.{filling};
-ghost use Rattle.settled_parts.specs.Members.{by_member};
-ghost use Rattle.settled_parts.specs.Parts.{part_of, settled_of};
+ghost use Rattle.settled_parts.specs.Members.{by_member, slots_of};
+ghost use Rattle.settled_parts.specs.Parts.{part_of};
 ghost use Rattle.settled_parts.specs.Unions.{case_of};
 ghost use Rattle.wire_cursor.specs.Decoding.{Decodes};
 ghost use Rattle.wire_cursor.specs.Standing.{room};
@@ -15,7 +15,7 @@ ghost use Rattle.xcdr_two_steps.specs.Headers.{header_view};
 ghost use Rattle.xcdr_two_reader.specs.Members.{mutable_read, piece_read, piece_of, IsIndexed, IsNew, IsWithin, has_come};
 ghost use Rattle.xcdr_two_reader.specs.Parts.{items_read, entries_read, case_read, union_read, body_read, whole_read};
 ghost use Rattle.xcdr_two_reader.specs.Insides.{inside, members_read};
-ghost use Rattle.xcdr_two_reader.specs.Parts.{slot_read};
+ghost use Rattle.xcdr_two_reader.specs.Parts.{slot_more};
 
 use crate::blocks::read_numbers;
 use crate::known::{Known, Piece};
@@ -23,8 +23,7 @@ use crate::leaves::{
     read_disc, read_enum_part, read_mask_part, read_prim_part, read_text_part, short,
 };
 use settled_parts::{
-    Entries, Items, Part, Settled, SettledCase, Slots, fits_disc, settle_case, slot_from,
-    whole_union,
+    Entries, Items, Part, SettledCase, Slots, fits_disc, settle_case, slot_from, whole_union,
 };
 use std::alloc::Global;
 use type_trees::{Case, Elem, MapType, Member, StructType, UnionType, XType, as_prim};
@@ -150,28 +149,33 @@ fn read_members<C: Cursor>(
 {
     let mut slots = Slots::new(alloc);
     for member in members {
-        let slot = read_slot(alloc, member, cut, cursor)?;
-        slots.take(slot)?;
+        read_slot(alloc, member, cut, &mut slots, cursor)?;
     }
     Ok(slots.part())
 }
 
+// Reads what comes of the next member straight into its slot.
 #[cycle(decode)]
+#[inline(always)]
 fn read_slot<C: Cursor>(
     alloc: Global,
     member: &Member,
     cut: bool,
+    slots: &mut Slots,
     cursor: &mut C,
-) -> Result<Settled, DecodeFault>
+) -> Result<(), DecodeFault>
     requires { sound (type_shape member.now.ty) ≡ true }
-    ensures { Decodes settled_of (slot_read cut (member_head member.now) (type_shape member.now.ty)) (C.state cursor.old) (C.state cursor.new) result }
+    ensures { Decodes (λ u. slots_of slots.new) (slot_more cut (member_head member.now) (type_shape member.now.ty) (slots_of slots.old)) (C.state cursor.old) (C.state cursor.new) result }
 {
     let there = read_whether(cursor, cut, member.optional)?;
     if !there {
-        return Ok(slot_from(alloc, member, None)?);
+        let settled = slot_from(alloc, member, None)?;
+        slots.take(settled)?;
+        return Ok(());
     }
     let part = read_part(alloc, &member.ty, cursor)?;
-    Ok(slot_from(alloc, member, Some(part))?)
+    slots.take_part(alloc, member, part)?;
+    Ok(())
 }
 
 #[cycle(decode)]
@@ -229,6 +233,7 @@ fn read_piece<C: Cursor>(
 
 // Reads the content of a member whose header was read.
 #[cycle(decode)]
+#[inline(always)]
 fn read_member<C: Cursor>(
     alloc: Global,
     member: &Member,

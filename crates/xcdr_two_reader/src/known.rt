@@ -129,6 +129,7 @@ impl Known {
     }
 
     /// Keeps a piece: what came of a member is settled by the member's setting.
+    #[inline(always)]
     pub(crate) fn keep(
         &mut self,
         alloc: Global,

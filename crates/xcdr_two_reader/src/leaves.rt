@@ -9,7 +9,7 @@ ghost use Rattle.wire_cursor.specs.Decoding.{Decodes};
 ghost use Rattle.wire_cursor.specs.declared.faults.DecodeFault.TheVariants.{Malformed};
 ghost use Rattle.xcdr_model.specs.declared.malformed.Why.TheVariants.{Short};
 
-use settled_parts::{Part, enum_part, text_part};
+use settled_parts::{Part, enum_part, text_from};
 use std::alloc::Global;
 use type_trees::{EnumType, MaskType, XType};
 use wire_cursor::{Cursor, DecodeFault};
@@ -17,6 +17,7 @@ use wire_scalars::{read_enum, read_mask, read_prim, read_text};
 use xcdr_model::Why;
 use xt_shapes::Prim;
 
+#[inline(always)]
 pub(crate) fn read_prim_part<C: Cursor>(cursor: &mut C, prim: Prim) -> Result<Part, DecodeFault>
     ensures { Decodes part_of (λ o s. read o (model.prim prim) s) (C.state cursor.old) (C.state cursor.new) result }
 {
@@ -24,6 +25,7 @@ pub(crate) fn read_prim_part<C: Cursor>(cursor: &mut C, prim: Prim) -> Result<Pa
     Ok(Part::number(number))
 }
 
+#[inline(always)]
 pub(crate) fn read_enum_part<C: Cursor>(
     cursor: &mut C,
     kind: &EnumType,
@@ -44,6 +46,7 @@ pub(crate) fn read_mask_part<C: Cursor>(
     Ok(Part::number(number))
 }
 
+#[inline(always)]
 pub(crate) fn read_text_part<C: Cursor>(
     alloc: Global,
     cursor: &mut C,
@@ -52,7 +55,7 @@ pub(crate) fn read_text_part<C: Cursor>(
     ensures { Decodes part_of (λ o s. read o (model.str bound) s) (C.state cursor.old) (C.state cursor.new) result }
 {
     let octets = read_text(alloc, cursor)?;
-    Ok(text_part(alloc, bound, &octets)?)
+    Ok(text_from(bound, octets))
 }
 
 pub(crate) fn short(at: u64) -> DecodeFault

@@ -8,6 +8,3 @@ mod known;
 mod leaves;
 
 pub use body::decode2;
-
-#[cfg(test)]
-mod tests;

@@ -132,6 +132,7 @@ pub stays : {A : Type 0} (f : Order → Spot → Reading A) {a b : Standing} →
 stays f {a} {b} st = record {
   within = st.within;
   later = omega (arith, st.place);
+  inside = λ h. omega (arith, st.place);
   told = λ xs e. (same_ahead a b xs st e, ap (f a.order) (sym (same_spot a b xs st)));
 }
 
@@ -139,6 +140,7 @@ pub peek_ok : {a b : Standing} (octets : List ℕ) (n : ℕ) → Stands a → Pe
 peek_ok {a} {b} octets n st p is = record {
   within = p.stayed.within;
   later = omega (arith, p.stayed.place);
+  inside = λ h. omega (arith, p.stayed.place);
   cause = tt;
   told = λ xs e.
       let long : nat_lt (length (take (room a) xs)) 4 ≡ false = le-ltb _ _ (omega (arith, room_is xs st e, p.fits)) in
@@ -151,8 +153,8 @@ peek_short {a} {b} said st p =
     (λ xs e. let few : nat_lt (length (take (room b) xs)) 4 ≡ true = lt-ltb _ _ (omega (arith, length-take (room b) xs, p.lacks, p.stayed.place, p.stayed.within.region_end)) in rw few refl) in
     malformed (λ n. n) (λ s. s.at) Short u (λ xs. omega (arith, p.at, p.stayed.place, p.stayed.within.origin, st.from_origin))
 
-pub peek_fault : {a b : Standing} → Stopped a b → Decodes {T = ℕ} (λ n. n) peeked_at a b (Err ReadFault)
-peek_fault {a} {b} p = read_fault (λ n. n) (begins peeked_at peeked_at a (λ s. refl)) (record { along = p.within.along; later = p.later; fault = refl; rose = p.rose })
+pub peek_fault : {a b : Standing} → Stands b → Stopped a b → Decodes {T = ℕ} (λ n. n) peeked_at a b (Err ReadFault)
+peek_fault {a} {b} st p = read_fault (λ n. n) (begins peeked_at peeked_at a (λ s. refl)) (record { along = p.within.along; later = p.later; inside = λ h. omega (arith, st.in_region, p.within.region_end); fault = refl; rose = p.rose })
 
 -- ---- whether a header comes
 
@@ -164,6 +166,7 @@ moved_on : {A : Type 0} {f : Order → Spot → Reading A} (k : Order → Spot �
 moved_on k {a} {b} u p = record {
   within = p.within;
   later = omega (arith, p.place);
+  inside = λ h. omega (arith, p.place);
   told = λ xs e.
       let none : a.place - a.place ≡ 0 = omega arith in
       let (there, same) = u.told xs e in
@@ -176,6 +179,6 @@ next_none {a} {b} st p is = moved_on (λ o s. Ok (None, s)) (rephrased next_at (
 pub next_some : {a b : Standing} → Stands a → Stayed a b → false ≡ nat_le (room a) (padding 4 (a.place - a.origin)) → Ahead next_at (λ o s. header_at o s >>= λ h. Ok (Some h.0, h.1)) a b
 next_some {a} {b} st p is = moved_on (λ o s. header_at o s >>= λ h. Ok (Some h.0, h.1)) (rephrased next_at (λ o s. header_at o s >>= λ h. Ok (Some h.0, h.1)) (begins next_at next_at a (λ s. refl)) (λ xs e. rw (ends_is a xs st e, ← is) refl)) p
 
-pub peek_err : {a b : Standing} (f : CutFault) → Stands a → Peeks a b (Err f) → Decodes {T = ℕ} (λ n. n) peeked_at a b (Err (cut_fault f))
-peek_err (cut.Short said) st p = peek_short said st p
-peek_err cut.Fault st p = peek_fault p.1
+pub peek_err : {a b : Standing} (f : CutFault) → Stands a → Stands b → Peeks a b (Err f) → Decodes {T = ℕ} (λ n. n) peeked_at a b (Err (cut_fault f))
+peek_err (cut.Short said) st st2 p = peek_short said st p
+peek_err cut.Fault st st2 p = peek_fault st2 p.1

@@ -5,7 +5,8 @@ ghost use Rattle.wire_cursor.specs.Standing.{Stayed, room, pad_of};
 ghost use Rattle.wire_cursor.specs.Placing.{placed_view};
 ghost use Rattle.xcdr_two_steps.specs.Headers.{header_view, maybe_header, length_at, checked_header, header_at, next_at, peeked_at, counted_content};
 
-use wire_cursor::{Cursor, DecodeFault, Placed, cut, number, read_number, read_placed};
+use wire_cursor::{Cursor, DecodeFault, Placed, cut, read_number, read_placed};
+use wire_numbers::{number, padding};
 use xcdr_model::Why;
 
 // Ids are below this number, which the header's mark and length code stand above.
@@ -119,8 +120,7 @@ fn has_padding_alone<C: Cursor>(cursor: &mut C) -> bool
     let origin = cursor.restart();
     cursor.resume(origin);
     let place = cursor.place();
-    let padding = (4 - (place - origin) % 4) % 4;
-    cursor.region_end() - place <= padding
+    cursor.region_end() - place <= padding(4, place - origin)
 }
 
 /// Reads the next member's header, or none where the region ends before it. MemberId comes where no member can have the id,

@@ -1,50 +1,50 @@
 -- Spellings written in two parts, or in a loop over parts.
-use Rattle.std.proofs.Common.{◌≡◌, refl, sym, ap, ◌∙◌, subst, ℕ, List, [], ◌∷◌, ◌++◌, length, replicate, reverse, Result, Ok, Err, Bool, true, false, cond, nat_lt, Option, Some, None, rules, ℤ, arith, tests, ◌<◌, ◌≤◌, zero, suc, append-nil}
+use Rattle.std.proofs.Common.{◌≡◌, refl, sym, ap, ◌∙◌, subst, ℕ, [], ◌++◌, replicate, Result, Ok, Err, Bool, true, false, Option, Some, None, ℤ, arith, append-nil}
 use Rattle.xt_shapes.specs.declared.leaves.Order.{Order}
 use Rattle.xt_shapes.specs.declared.leaves.Order.TheVariants.{Big, Little}
 use Rattle.xt_shapes.specs.Select.{select}
-use Rattle.xt_shapes.specs.Shape.{Head, Shape, Cases}
+use Rattle.xt_shapes.specs.Shape.{Head, Cases}
 use Rattle.std.specs.Option.{is_some, option_map}
 use Rattle.value_writer.specs.Slots.{slot_of}
 use Rattle.xt_shapes.specs.Vals.{Val, Slot, absent, present}
 use Rattle.xt_outside.specs.declared.octets.Failed.{Failed}
-use Rattle.xcdr_model.specs.FixedSpelling.{Fixed, nothing, number_fixed, then_fixed, headed_fixed, slot_fixed, piece_fixed, case_fixed, if_present_fixed, if_selected_fixed, scalar_fixed, scalar_size}
-use Rattle.xcdr_model.specs.Numbers.{octets, padding, raw}
+use Rattle.xcdr_model.specs.FixedSpelling.{Fixed, nothing, number_fixed, then_fixed, headed_fixed, slot_fixed, piece_fixed, case_fixed, if_present_fixed, if_selected_fixed}
+use Rattle.xcdr_model.specs.Numbers.{octets}
 use Rattle.wire_writer.specs.Written.{Written}
-use Rattle.wire_writer.specs.Writing.{Puts, PutsWithin}
+use Rattle.wire_writer.specs.Writing.{PutsWithin}
 use Rattle.wire_writer.proofs.Puts.{Going, begins, goes_on, last, fails, ends, left_as, within, puts_nothing}
 use Rattle.value_writer.specs.Places.{end_of}
-use Rattle.xcdr_two_writer.specs.Parts.{presence_fixed, selected_fixed}
+use Rattle.xcdr_two_writer.specs.Parts.{presence_fixed}
 use Rattle.xcdr_two_writer.proofs.SizeSteps.{padding_zero}
 use Rattle.xcdr_two_writer.proofs.Steady.{Steady}
 use Rattle.xcdr_two_writer.proofs.Counts.{headed_begins}
 
 -- the later part was written by a call that names the order of the writer as it then stands
-same_order : {T : Type 0} {r : Result T Failed} (F : Order → Fixed) {b c : Written} (o : Order) → b.order ≡ o → PutsWithin 2097152 (F b.order) b c r → PutsWithin 2097152 (F o) b c r
-same_order {r = r} F {b} {c} o e w = subst (λ (k : Order). PutsWithin 2097152 (F k) b c r) e w
+same_order : {T : Type 0} {r : Result T Failed} (F : Order → Fixed) {b c : Written} (o : Order) → b.order ≡ o → PutsWithin 4294967296 (F b.order) b c r → PutsWithin 4294967296 (F o) b c r
+same_order {r = r} F {b} {c} o e w = subst (λ (k : Order). PutsWithin 4294967296 (F k) b c r) e w
 
-pub put_as : {T : Type 0} {r : Result T Failed} (f g : Fixed) {a b : Written} → f ≡ g → PutsWithin 2097152 g a b r → PutsWithin 2097152 f a b r
-put_as {r = r} f g {a} {b} e w = subst (λ (k : Fixed). PutsWithin 2097152 k a b r) (sym e) w
+pub put_as : {T : Type 0} {r : Result T Failed} (f g : Fixed) {a b : Written} → f ≡ g → PutsWithin 4294967296 g a b r → PutsWithin 4294967296 f a b r
+put_as {r = r} f g {a} {b} e w = subst (λ (k : Fixed). PutsWithin 4294967296 k a b r) (sym e) w
 
-pub two : {T S : Type 0} {t : T} {r : Result S Failed} (f h : Fixed) (G : Order → Fixed) {a b c : Written} → ((p : ℕ) → f p ≡ then_fixed h (G a.order) p) → PutsWithin 2097152 h a b (Ok t) → PutsWithin 2097152 (G b.order) b c r → PutsWithin 2097152 f a c r
-two f h G {a} {b} {c} e w v = last (G a.order) (goes_on h (G a.order) (begins 2097152 f (then_fixed h (G a.order)) a e) w) (same_order G a.order w.keeps.order v)
+pub two : {T S : Type 0} {t : T} {r : Result S Failed} (f h : Fixed) (G : Order → Fixed) {a b c : Written} → ((p : ℕ) → f p ≡ then_fixed h (G a.order) p) → PutsWithin 4294967296 h a b (Ok t) → PutsWithin 4294967296 (G b.order) b c r → PutsWithin 4294967296 f a c r
+two f h G {a} {b} {c} e w v = last (G a.order) (goes_on h (G a.order) (begins 4294967296 f (then_fixed h (G a.order)) a e) w) (same_order G a.order w.keeps.order v)
 
-pub first_fails : {T S : Type 0} {x : Failed} (f h g : Fixed) {a b : Written} → ((p : ℕ) → f p ≡ then_fixed h g p) → PutsWithin {T = T} 2097152 h a b (Err x) → PutsWithin {T = S} 2097152 f a b (Err x)
-first_fails f h g {a} {b} e w = fails h g (begins 2097152 f (then_fixed h g) a e) w
+pub first_fails : {T S : Type 0} {x : Failed} (f h g : Fixed) {a b : Written} → ((p : ℕ) → f p ≡ then_fixed h g p) → PutsWithin {T = T} 4294967296 h a b (Err x) → PutsWithin {T = S} 4294967296 f a b (Err x)
+first_fails f h g {a} {b} e w = fails h g (begins 4294967296 f (then_fixed h g) a e) w
 
-pub headed_two : {T S : Type 0} {t : T} {r : Result S Failed} (F : Order → Fixed) (g : Fixed) (n : ℕ) {a b c : Written} → Steady (F a.order) g → n ≡ end_of g 0 → PutsWithin 2097152 (number_fixed 4 a.order 4 n) a b (Ok t) → PutsWithin 2097152 (F b.order) b c r → PutsWithin 2097152 (headed_fixed a.order (F a.order)) a c r
+pub headed_two : {T S : Type 0} {t : T} {r : Result S Failed} (F : Order → Fixed) (g : Fixed) (n : ℕ) {a b c : Written} → Steady (F a.order) g → n ≡ end_of g 0 → PutsWithin 4294967296 (number_fixed 4 a.order 4 n) a b (Ok t) → PutsWithin 4294967296 (F b.order) b c r → PutsWithin 4294967296 (headed_fixed a.order (F a.order)) a c r
 headed_two F g n {a} {b} {c} s e w v = last (F a.order) (headed_begins a.order (F a.order) g n s e w) (same_order F a.order w.keeps.order v)
 
-pub onward : {T : Type 0} {t : T} (f h k : Fixed) (H : Order → Fixed) {a b c : Written} → Going 2097152 f h a b → h ≡ then_fixed (H a.order) k → PutsWithin 2097152 (H b.order) b c (Ok t) → Going 2097152 f k a c
+pub onward : {T : Type 0} {t : T} (f h k : Fixed) (H : Order → Fixed) {a b c : Written} → Going 4294967296 f h a b → h ≡ then_fixed (H a.order) k → PutsWithin 4294967296 (H b.order) b c (Ok t) → Going 4294967296 f k a c
 onward f h k H {a} {b} {c} u e w = goes_on (H a.order) k (left_as h (then_fixed (H a.order) k) (λ p. ap (λ (x : Fixed). x p) e) u) (same_order H a.order u.keeps.order w)
 
-pub onward_fails : {T S : Type 0} {x : Failed} (f h k : Fixed) (H : Order → Fixed) {a b c : Written} → Going 2097152 f h a b → h ≡ then_fixed (H a.order) k → PutsWithin {T = T} 2097152 (H b.order) b c (Err x) → PutsWithin {T = S} 2097152 f a c (Err x)
+pub onward_fails : {T S : Type 0} {x : Failed} (f h k : Fixed) (H : Order → Fixed) {a b c : Written} → Going 4294967296 f h a b → h ≡ then_fixed (H a.order) k → PutsWithin {T = T} 4294967296 (H b.order) b c (Err x) → PutsWithin {T = S} 4294967296 f a c (Err x)
 onward_fails f h k H {a} {b} {c} u e w = fails (H a.order) k (left_as h (then_fixed (H a.order) k) (λ p. ap (λ (x : Fixed). x p) e) u) (same_order H a.order u.keeps.order w)
 
-pub all_done : {T : Type 0} {t : T} (f h : Fixed) {a b : Written} → Going 2097152 f h a b → h ≡ nothing → PutsWithin 2097152 f a b (Ok t)
+pub all_done : {T : Type 0} {t : T} (f h : Fixed) {a b : Written} → Going 4294967296 f h a b → h ≡ nothing → PutsWithin 4294967296 f a b (Ok t)
 all_done f h u e = ends (left_as h nothing (λ p. ap (λ (x : Fixed). x p) e) u)
 
-pub none_put : {T : Type 0} {t : T} (a : Written) → PutsWithin 2097152 nothing a a (Ok t)
+pub none_put : {T : Type 0} {t : T} (a : Written) → PutsWithin 4294967296 nothing a a (Ok t)
 none_put a = within (puts_nothing a)
 
 -- ---- spellings in parts
@@ -73,11 +73,11 @@ slot_parts false o f (present w) there e p = then_nothing (f w) p
 slot_parts true o f absent there e p = nothing_more (number_fixed 4 o 1 0) p ∙ ap (λ (b : Bool). then_fixed (presence_fixed o true b) nothing p) (sym e)
 slot_parts true o f (present w) there e p = ap (λ (b : Bool). then_fixed (presence_fixed o true b) (f w) p) (sym e)
 
-pub selected_put : {T : Type 0} {r : Result T Failed} (o : Order) (cs : Cases) (d : ℤ) (s : Slot) (i : ℕ) {a b : Written} → select cs d ≡ Some i → PutsWithin 2097152 (case_fixed o cs i s) a b r → PutsWithin 2097152 (if_selected_fixed (select cs d) (λ j. case_fixed o cs j s)) a b r
-selected_put {r = r} o cs d s i {a} {b} e w = subst (λ (k : Option ℕ). PutsWithin 2097152 (if_selected_fixed k (λ j. case_fixed o cs j s)) a b r) (sym e) w
+pub selected_put : {T : Type 0} {r : Result T Failed} (o : Order) (cs : Cases) (d : ℤ) (s : Slot) (i : ℕ) {a b : Written} → select cs d ≡ Some i → PutsWithin 4294967296 (case_fixed o cs i s) a b r → PutsWithin 4294967296 (if_selected_fixed (select cs d) (λ j. case_fixed o cs j s)) a b r
+selected_put {r = r} o cs d s i {a} {b} e w = subst (λ (k : Option ℕ). PutsWithin 4294967296 (if_selected_fixed k (λ j. case_fixed o cs j s)) a b r) (sym e) w
 
-pub none_selected : {T : Type 0} {t : T} (o : Order) (cs : Cases) (d : ℤ) (s : Slot) (a : Written) → select cs d ≡ None → PutsWithin 2097152 (if_selected_fixed (select cs d) (λ j. case_fixed o cs j s)) a a (Ok t)
-none_selected {t = t} o cs d s a e = subst (λ (k : Option ℕ). PutsWithin 2097152 (if_selected_fixed k (λ j. case_fixed o cs j s)) a a (Ok t)) (sym e) (none_put a)
+pub none_selected : {T : Type 0} {t : T} (o : Order) (cs : Cases) (d : ℤ) (s : Slot) (a : Written) → select cs d ≡ None → PutsWithin 4294967296 (if_selected_fixed (select cs d) (λ j. case_fixed o cs j s)) a a (Ok t)
+none_selected {t = t} o cs d s a e = subst (λ (k : Option ℕ). PutsWithin 4294967296 (if_selected_fixed k (λ j. case_fixed o cs j s)) a a (Ok t)) (sym e) (none_put a)
 
 pub there_is : {A : Type 0} (f : A → Val) (x : Option A) → is_some x ≡ is_there (slot_of (option_map f x))
 there_is f None = refl

@@ -1,5 +1,5 @@
 -- Sizes of whole samples.
-use Rattle.std.proofs.Common.{◌≡◌, refl, sym, ap, ap₂, [], ◌∷◌, ◌++◌, replicate, ◌∙◌, ℕ, ◌+◌, ◌-◌, ◌%◌, ◌≤◌, ◌<◌, ◌^◌, length, min, arith, Option, Some, None, cond, nat_le, tests, Result, List, Bool, true, false}
+use Rattle.std.proofs.Common.{◌≡◌, refl, sym, ap, ap₂, [], ◌∷◌, ◌++◌, replicate, ◌∙◌, ℕ, ◌+◌, ◌-◌, ◌%◌, ◌≤◌, ◌<◌, length, arith, Some, None, cond, nat_le, tests, Result, Bool, true, false}
 use Rattle.xt_shapes.specs.declared.leaves.Order.{Order}
 use Rattle.xt_shapes.specs.declared.leaves.Order.TheVariants.{Little}
 use Rattle.xt_shapes.specs.declared.leaves.Rep.TheVariants.{Xcdr2}
@@ -36,7 +36,7 @@ not_told t v end octets e is past =
     sym (ap (λ (b : Bool). cond b (Some (4 + n + (4 - n % 4) % 4)) None) high)
 
 -- what has a size fits wherever it is written
-pub fits_anywhere : {T : Type 0} {r : Result T Failed} (o : Order) (t : Shape) (v : Val) {a b : Written} → sample_size Xcdr2 t v ≤ 1048576 → PutsWithin 2097152 (fixed o t v) a b r → Puts (fixed o t v) a b r
+pub fits_anywhere : {T : Type 0} {r : Result T Failed} (o : Order) (t : Shape) (v : Val) {a b : Written} → sample_size Xcdr2 t v ≤ 1048576 → PutsWithin 4294967296 (fixed o t v) a b r → Puts (fixed o t v) a b r
 fits_anywhere o t v size w = record {
   keeps = w.keeps;
   put = λ p at.
@@ -45,7 +45,7 @@ fits_anywhere o t v size w = record {
       w.put p at (omega (arith, most, small));
 }
 
-pub end_small : (t : Shape) (v : Val) (end : ℕ) → end ≡ end_of (fixed Little t v) 0 → end ≤ 2097152
+pub end_small : (t : Shape) (v : Val) (end : ℕ) → end ≡ end_of (fixed Little t v) 0 → end ≤ 4294967296
 unfolding end_of
 end_small t v end e = omega (arith, e)
 

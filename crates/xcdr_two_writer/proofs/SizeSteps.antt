@@ -1,9 +1,9 @@
 -- Where the parts of a spelling end.
-use Rattle.std.proofs.Common.{◌≡◌, refl, sym, ap, ◌∙◌, ℕ, ◌+◌, ◌-◌, ◌*◌, ◌%◌, ◌^◌, ◌≤◌, ◌<◌, ℤ, Bool, true, false, cond, List, [], ◌∷◌, ◌++◌, length, replicate, Option, Some, None, arith, min, nat_lt, map, drop, get_or, length-append, append_assoc, zero, suc, append-nil, add-one, ◌==◌, tests, ⊎_elim, Box, Global}
+use Rattle.std.proofs.Common.{◌≡◌, refl, sym, ap, ◌∙◌, ℕ, ◌+◌, ◌*◌, ◌^◌, ◌≤◌, ◌<◌, ℤ, Bool, true, false, cond, List, [], ◌∷◌, ◌++◌, length, replicate, Option, Some, None, arith, min, nat_lt, map, drop, get_or, length-append, append_assoc, zero, suc, append-nil, ◌==◌, tests, ⊎_elim, Box, Global}
 use Rattle.std.proofs.lemmas.Bool.{cases_lt}
 use Rattle.std.proofs.Math.Seq.{drop-nil}
 use Rattle.std.specs.Option.{is_some}
-use Rattle.std.proofs.lemmas.List.{drop_more, drop_all, length-replicate, length-map}
+use Rattle.std.proofs.lemmas.List.{drop_more, drop_all, length-replicate}
 use Rattle.xt_shapes.specs.declared.leaves.Ext.{Ext}
 use Rattle.xt_shapes.specs.declared.leaves.Ext.TheVariants.{Final, Appendable, Mutable}
 use Rattle.xt_shapes.specs.declared.leaves.Primitive.{Primitive}
@@ -12,8 +12,8 @@ use Rattle.xt_shapes.specs.declared.leaves.Order.{Order}
 use Rattle.xt_shapes.specs.Kinds.{as_prim}
 use Rattle.xt_shapes.specs.Select.{select, is_must}
 use Rattle.xt_shapes.specs.Sizes.{size, enum_size, mask_size}
-use Rattle.xt_shapes.specs.Shape.{Head, Shape, prim, str, enumeration, bitmask, sequence, array, map_of, structure, union, Members, no_members, member, Cases, no_cases, one_case}
-use Rattle.xt_shapes.specs.Vals.{Val, Slots, Slot, absent, present, number_in, octets_in, items_in, entries_in, slots_in, disc_in, body_in, first, others}
+use Rattle.xt_shapes.specs.Shape.{Head, Shape, prim, str, enumeration, bitmask, sequence, array, map_of, structure, union, Members, Cases}
+use Rattle.xt_shapes.specs.Vals.{Val, Slot, absent, present, number_in, octets_in, items_in, entries_in, slots_in, disc_in, body_in, first, others}
 use Rattle.xcdr_model.specs.FixedSpelling.{Fixed, nothing, number_fixed, then_fixed, headed_fixed, each_fixed, collection_fixed, counted_fixed, scalar_size, scalar_fixed, text_fixed, slot_fixed, code_of, piece_fixed, if_selected_fixed, if_present_fixed, fixed, members_fixed, pieces_fixed, case_fixed}
 use Rattle.xcdr_model.specs.Numbers.{padding, raw, octets}
 use Rattle.xcdr_model.specs.Xcdr2Reading.{is_primitive}
@@ -33,16 +33,13 @@ use Rattle.type_trees.specs.declared.types.Case.{Case}
 use Rattle.type_trees.specs.declared.values.Pair.{Pair}
 use Rattle.type_trees.specs.declared.values.Slot as values
 use Rattle.type_trees.specs.Bridge.{type_shape, members_shape, cases_shape, member_head, shape, literal_shape, flag_shape}
-use Rattle.type_trees.specs.View.{val, pair_val, slots_val, body_val}
+use Rattle.type_trees.specs.View.{val, pair_val, slots_val}
 use Rattle.type_trees.proofs.Views.{member_tree_is, case_tree_is, pair_val_is, tree_prim, tree_str, tree_enum, tree_mask, tree_seq, tree_array, tree_map, tree_struct, tree_union, sequence_tree_is, array_tree_is, map_tree_is, struct_tree_is, union_tree_is}
-use Rattle.wire_writer.specs.Writing.{IsUnit}
 use Rattle.wire_writer.proofs.NumberSteps.{length-octets}
-use Rattle.wire_writer.proofs.Puts.{length-number}
-use Rattle.value_writer.specs.Places.{end_of, number_end, run_end}
+use Rattle.value_writer.specs.Places.{end_of, number_end}
 use Rattle.value_writer.specs.Runs.{run_fixed}
 use Rattle.value_writer.proofs.Ends.{end_of_then, end_of_number, end_of_headed, end_of_nothing, end_of_octets, end_of_same}
-use Rattle.value_writer.proofs.RunSteps.{end_of_run}
-use Rattle.xcdr_two_writer.specs.Parts.{items_fixed, entries_fixed, sequence_fixed, array_fixed, map_fixed, structure_fixed, selected_fixed, union_fixed, delimiter_end, header_end}
+use Rattle.xcdr_two_writer.specs.Parts.{items_fixed, sequence_fixed, array_fixed, map_fixed, structure_fixed, selected_fixed, union_fixed, delimiter_end, header_end}
 
 -- ---- numbers and texts
 
@@ -50,13 +47,13 @@ pub padding_zero : (p : ℕ) → padding 0 p ≡ 0
 unfolding padding
 padding_zero p = omega arith
 
-pub number_end_zero : (p : ℕ) → number_end 4 0 p ≡ min 2097152 p
-number_end_zero p = ap (λ (n : ℕ). min 2097152 (p + (n + 0))) (padding_zero p) ∙ omega arith
+pub number_end_zero : (p : ℕ) → number_end 4 0 p ≡ min 4294967296 p
+number_end_zero p = ap (λ (n : ℕ). min 4294967296 (p + (n + 0))) (padding_zero p) ∙ omega arith
 
 pub end_of_scalar : (o : Order) (t : Shape) (i : ℤ) (p : ℕ) → end_of (scalar_fixed 4 o t i) p ≡ number_end 4 (scalar_size t) p
 end_of_scalar o t i p = end_of_number 4 o (scalar_size t) (raw (scalar_size t) i) p
 
-pub end_of_text : (o : Order) (t : List ℕ) (p : ℕ) → end_of (text_fixed o t) p ≡ min 2097152 (min 2097152 (number_end 4 4 p + length t) + 1)
+pub end_of_text : (o : Order) (t : List ℕ) (p : ℕ) → end_of (text_fixed o t) p ≡ min 4294967296 (min 4294967296 (number_end 4 4 p + length t) + 1)
 end_of_text o t p =
     end_of_then (number_fixed 4 o 4 (length t + 1)) (λ q. t ++ 0 ∷ []) p
     ∙ ap (λ (q : ℕ). end_of (λ k. t ++ 0 ∷ []) q) (end_of_number 4 o 4 (length t + 1) p)
@@ -160,7 +157,7 @@ end_of_piece o h code f w p =
     by_code true = refl
     by_code false = end_of_headed o (f w) (number_end 4 4 p)
 
-pub end_of_no_piece : (o : Order) (h : Head) (code : ℕ) (f : Val → Fixed) (p : ℕ) → end_of (piece_fixed o h code f absent) p ≡ min 2097152 p
+pub end_of_no_piece : (o : Order) (h : Head) (code : ℕ) (f : Val → Fixed) (p : ℕ) → end_of (piece_fixed o h code f absent) p ≡ min 4294967296 p
 unfolding piece_fixed
 end_of_no_piece o h code f p = end_of_nothing p
 
@@ -228,24 +225,24 @@ prim_is o p v = refl
 
 -- ---- steps of a loop over parts
 
-pub capped_start : (f : Fixed) (p q : ℕ) → q ≡ min p 2097152 → end_of f q ≡ end_of f p
+pub capped_start : (f : Fixed) (p q : ℕ) → q ≡ min p 4294967296 → end_of f q ≡ end_of f p
 unfolding end_of
 capped_start f p q e = ⊎_elim
-    (λ below. ap (λ (n : ℕ). min 2097152 (n + length (f n))) (e ∙ omega (arith, below)))
+    (λ below. ap (λ (n : ℕ). min 4294967296 (n + length (f n))) (e ∙ omega (arith, below)))
     (λ above. omega (arith, e, above))
-    (cases_lt p 2097152)
+    (cases_lt p 4294967296)
 
-pub capped_min : (p q : ℕ) → q ≡ min p 2097152 → min 2097152 q ≡ q
+pub capped_min : (p q : ℕ) → q ≡ min p 4294967296 → min 4294967296 q ≡ q
 capped_min p q e = omega (arith, e)
 
 pub step_end : (f g h : Fixed) (p q t : ℕ) → h ≡ then_fixed f g → q ≡ end_of f p → end_of h p ≡ t → end_of g q ≡ t
 step_end f g h p q t parts is whole = ap (λ (k : ℕ). end_of g k) is ∙ sym (end_of_then f g p) ∙ ap (λ (k : Fixed). end_of k p) (sym parts) ∙ whole
 
-pub capped_end : (f : Fixed) (p q : ℕ) → q ≡ end_of f p → min 2097152 q ≡ q
+pub capped_end : (f : Fixed) (p q : ℕ) → q ≡ end_of f p → min 4294967296 q ≡ q
 unfolding end_of
 capped_end f p q e = omega (arith, e)
 
-pub last_end : (h : Fixed) (p t : ℕ) → h ≡ nothing → end_of h p ≡ t → min 2097152 p ≡ p → p ≡ t
+pub last_end : (h : Fixed) (p t : ℕ) → h ≡ nothing → end_of h p ≡ t → min 4294967296 p ≡ p → p ≡ t
 last_end h p t none whole low = sym low ∙ sym (end_of_nothing p) ∙ ap (λ (k : Fixed). end_of k p) (sym none) ∙ whole
 
 pub next_entry : (es : List Pair) (i : ℕ) (e : Pair) → i < length es → e ≡ get_or es i e → map pair_val (drop i es) ≡ (val e.key, val e.value) ∷ map pair_val (drop (i + 1) es)

@@ -1,22 +1,21 @@
 -- How long a fixed spelling is at different places: as long where the places are equal up to a multiple of 4, and it never ends sooner
 -- where it begins later.
-use Rattle.std.proofs.Common.{◌≡◌, refl, sym, ap, ◌∙◌, subst, ℕ, ◌+◌, ◌-◌, ◌*◌, ◌%◌, ◌≤◌, ◌<◌, ℤ, Bool, true, false, cond, ◌&&◌, ◌==◌, List, [], ◌∷◌, ◌++◌, length, replicate, Option, Some, None, arith, inl, inr, min, nat_lt, nat_le, ◌/◌, ◌^◌}
+use Rattle.std.proofs.Common.{◌≡◌, refl, sym, ap, ◌∙◌, ℕ, ◌+◌, ◌*◌, ◌%◌, ◌≤◌, ℤ, Bool, true, false, cond, ◌&&◌, ◌==◌, List, [], ◌∷◌, ◌++◌, length, Option, Some, None, arith, inl, inr, min, nat_lt, nat_le, ◌/◌, ◌^◌}
 use Rattle.xt_shapes.specs.declared.leaves.Ext.TheVariants.{Final, Appendable, Mutable}
 use Rattle.xt_shapes.specs.declared.leaves.Primitive.{Primitive}
 use Rattle.xt_shapes.specs.declared.leaves.Order.{Order}
 use Rattle.xt_shapes.specs.Select.{select, is_must}
-use Rattle.xt_shapes.specs.Sizes.{size, enum_size, mask_size}
+use Rattle.xt_shapes.specs.Sizes.{size}
 use Rattle.xt_shapes.specs.Shape.{Head, Shape, prim, str, enumeration, bitmask, sequence, array, map_of, structure, union, Members, no_members, member, Cases, no_cases, one_case}
 use Rattle.xt_shapes.specs.Vals.{Val, Slots, Slot, absent, present, number_in, octets_in, items_in, entries_in, slots_in, disc_in, body_in, first, others}
-use Rattle.xcdr_model.specs.FixedSpelling.{Fixed, nothing, number_fixed, then_fixed, headed_fixed, each_fixed, collection_fixed, counted_fixed, scalar_size, scalar_fixed, text_fixed, slot_fixed, code_of, piece_fixed, if_selected_fixed, if_present_fixed, fixed, members_fixed, pieces_fixed, case_fixed}
+use Rattle.xcdr_model.specs.FixedSpelling.{Fixed, number_fixed, then_fixed, headed_fixed, each_fixed, collection_fixed, counted_fixed, scalar_size, scalar_fixed, text_fixed, slot_fixed, code_of, piece_fixed, if_selected_fixed, if_present_fixed, fixed, members_fixed, pieces_fixed, case_fixed}
 use Rattle.xcdr_model.specs.Numbers.{padding, raw}
 use Rattle.xcdr_model.specs.Xcdr2Reading.{is_primitive}
 use Rattle.xcdr_model.specs.Xcdr2Spelling.{bit}
 use Rattle.xcdr_two_writer.specs.Parts.{items_fixed, selected_fixed}
 use Rattle.xcdr_two_writer.proofs.SizeSteps.{piece_parts}
-use Rattle.wire_writer.specs.Writing.{IsUnit}
+use Rattle.wire_numbers.specs.Units.{IsSize}
 use Rattle.wire_writer.proofs.Puts.{length-number}
-use Rattle.value_writer.specs.Scalars.{IsSize}
 use Rattle.value_writer.proofs.Ends.{length_then, length_headed}
 
 -- f and g are one spelling in two byte orders

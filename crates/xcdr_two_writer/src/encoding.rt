@@ -11,7 +11,7 @@ ghost use Rattle.type_trees.specs.Parts.{structure_parts, union_parts};
 ghost use Rattle.type_trees.specs.View.{val, pair_val, slots_val};
 ghost use Rattle.wire_writer.specs.Writing.{Puts, PutsWithin};
 ghost use Rattle.value_writer.specs.Slots.{slot_of};
-ghost use Rattle.value_writer.specs.Scalars.{IsSize};
+ghost use Rattle.wire_numbers.specs.Units.{IsSize};
 ghost use Rattle.xcdr_model.specs.Numbers as numbers;
 ghost use Rattle.xcdr_two_writer.specs.Parts.{items_fixed, entries_fixed, sequence_fixed, array_fixed, map_fixed, structure_fixed, selected_fixed, union_fixed, presence_fixed};
 
@@ -25,9 +25,9 @@ use type_trees::{
     as_prim, select,
 };
 use value_writer::{
-    body_in, disc_in, entries_in, enum_size, items_in, mask_size, number_in, octets_in, prim_size,
-    put_run, scalar_size, slot_at, slots_in,
+    body_in, disc_in, entries_in, items_in, number_in, octets_in, put_run, slot_at, slots_in,
 };
+use wire_numbers::{enum_size, mask_size, prim_size, scalar_size};
 use wire_writer::{Writer, raw};
 use xt_outside::{Failed, Sink};
 use xt_shapes::Ext;
@@ -83,7 +83,7 @@ fn encode_text<K: Sink>(octets: &[u8], out: &mut Writer<K>) -> Result<(), Failed
 
 #[cycle(encode)]
 fn encode_each<K: Sink>(ty: &XType, values: &[Value], out: &mut Writer<K>) -> Result<(), Failed>
-    ensures { PutsWithin 2097152 (items_fixed out.old.order (type_shape ty.now) (map val values.now)) out.old out.new result }
+    ensures { PutsWithin 4294967296 (items_fixed out.old.order (type_shape ty.now) (map val values.now)) out.old out.new result }
 {
     for value in values {
         encode_value(ty, value, out)?;
@@ -93,7 +93,7 @@ fn encode_each<K: Sink>(ty: &XType, values: &[Value], out: &mut Writer<K>) -> Re
 
 #[cycle(encode)]
 fn encode_items<K: Sink>(ty: &XType, values: &[Value], out: &mut Writer<K>) -> Result<(), Failed>
-    ensures { PutsWithin 2097152 (items_fixed out.old.order (type_shape ty.now) (map val values.now)) out.old out.new result }
+    ensures { PutsWithin 4294967296 (items_fixed out.old.order (type_shape ty.now) (map val values.now)) out.old out.new result }
 {
     match as_prim(ty) {
         Some(prim) => put_run(4, prim_size(prim), values, out),
@@ -104,7 +104,7 @@ fn encode_items<K: Sink>(ty: &XType, values: &[Value], out: &mut Writer<K>) -> R
 #[cycle(encode)]
 fn encode_counted<K: Sink>(ty: &XType, values: &[Value], out: &mut Writer<K>) -> Result<(), Failed>
     ensures { let order = out.old.order in
-        PutsWithin 2097152 (counted_fixed order (λ w. fixed order (type_shape ty.now) w) (map val values.now)) out.old out.new result }
+        PutsWithin 4294967296 (counted_fixed order (λ w. fixed order (type_shape ty.now) w) (map val values.now)) out.old out.new result }
 {
     encode_count(values.len() as u64, out)?;
     encode_items(ty, values, out)
@@ -116,7 +116,7 @@ fn encode_sequence<K: Sink>(
     values: &[Value],
     out: &mut Writer<K>,
 ) -> Result<(), Failed>
-    ensures { PutsWithin 2097152 (sequence_fixed out.old.order (type_shape kind.now.elem.ty) (map val values.now)) out.old out.new result }
+    ensures { PutsWithin 4294967296 (sequence_fixed out.old.order (type_shape kind.now.elem.ty) (map val values.now)) out.old out.new result }
 {
     if is_plain(&kind.elem.ty) {
         return encode_counted(&kind.elem.ty, values, out);
@@ -131,7 +131,7 @@ fn encode_array<K: Sink>(
     values: &[Value],
     out: &mut Writer<K>,
 ) -> Result<(), Failed>
-    ensures { PutsWithin 2097152 (array_fixed out.old.order (type_shape kind.now.elem.ty) (map val values.now)) out.old out.new result }
+    ensures { PutsWithin 4294967296 (array_fixed out.old.order (type_shape kind.now.elem.ty) (map val values.now)) out.old out.new result }
 {
     if is_plain(&kind.elem.ty) {
         return encode_items(&kind.elem.ty, values, out);
@@ -148,7 +148,7 @@ fn encode_entries<K: Sink>(
 ) -> Result<(), Failed>
     ensures { let key = type_shape kind.now.key.ty in
         let value = type_shape kind.now.value.ty in
-        PutsWithin 2097152 (entries_fixed out.old.order key value (map pair_val entries.now)) out.old out.new result }
+        PutsWithin 4294967296 (entries_fixed out.old.order key value (map pair_val entries.now)) out.old out.new result }
 {
     for entry in entries {
         encode_value(&kind.key.ty, &entry.key, out)?;
@@ -166,7 +166,7 @@ fn encode_counted_entries<K: Sink>(
     ensures { let order = out.old.order in
         let key = type_shape kind.now.key.ty in
         let value = type_shape kind.now.value.ty in
-        PutsWithin 2097152 (counted_fixed order (λ x. then_fixed (fixed order key x.0) (fixed order value x.1)) (map pair_val entries.now)) out.old out.new result }
+        PutsWithin 4294967296 (counted_fixed order (λ x. then_fixed (fixed order key x.0) (fixed order value x.1)) (map pair_val entries.now)) out.old out.new result }
 {
     encode_count(entries.len() as u64, out)?;
     encode_entries(kind, entries, out)
@@ -176,7 +176,7 @@ fn encode_counted_entries<K: Sink>(
 fn encode_map<K: Sink>(kind: &MapType, entries: &[Pair], out: &mut Writer<K>) -> Result<(), Failed>
     ensures { let key = type_shape kind.now.key.ty in
         let value = type_shape kind.now.value.ty in
-        PutsWithin 2097152 (map_fixed out.old.order key value (map pair_val entries.now)) out.old out.new result }
+        PutsWithin 4294967296 (map_fixed out.old.order key value (map pair_val entries.now)) out.old out.new result }
 {
     if are_plain(kind) {
         return encode_counted_entries(kind, entries, out);
@@ -207,7 +207,7 @@ fn encode_present<K: Sink>(
     out: &mut Writer<K>,
 ) -> Result<(), Failed>
     ensures { let order = out.old.order in
-        PutsWithin 2097152 (if_present_fixed (slot_of (option_map (λ v. val v.now) body.entry)) (λ w. fixed order (type_shape ty.now) w)) out.old out.new result }
+        PutsWithin 4294967296 (if_present_fixed (slot_of (option_map (λ v. val v.now) body.entry)) (λ w. fixed order (type_shape ty.now) w)) out.old out.new result }
 {
     match body {
         None => Ok(()),
@@ -222,7 +222,7 @@ fn encode_slot<K: Sink>(
     out: &mut Writer<K>,
 ) -> Result<(), Failed>
     ensures { let order = out.old.order in
-        PutsWithin 2097152 (slot_fixed member.now.optional order (λ w. fixed order (type_shape member.now.ty) w) (slot_of (option_map (λ v. val v.now) slot.entry))) out.old out.new result }
+        PutsWithin 4294967296 (slot_fixed member.now.optional order (λ w. fixed order (type_shape member.now.ty) w) (slot_of (option_map (λ v. val v.now) slot.entry))) out.old out.new result }
 {
     encode_presence(member.optional, slot.is_some(), out)?;
     encode_present(&member.ty, slot, out)
@@ -234,7 +234,7 @@ fn encode_members<K: Sink>(
     slots: &[Slot],
     out: &mut Writer<K>,
 ) -> Result<(), Failed>
-    ensures { PutsWithin 2097152 (members_fixed out.old.order (members_shape members.now) (slots_val slots.now)) out.old out.new result }
+    ensures { PutsWithin 4294967296 (members_fixed out.old.order (members_shape members.now) (slots_val slots.now)) out.old out.new result }
 {
     for at in 0..members.len() {
         encode_slot(&members[at], slot_at(slots, at), out)?;
@@ -252,7 +252,7 @@ fn encode_content<K: Sink>(
 ) -> Result<(), Failed>
     ensures { let order = out.old.order in
         let content = fixed order (type_shape ty.now) (val value.now) in
-        PutsWithin 2097152 (cond (nat_lt code 4) content (headed_fixed order content)) out.old out.new result }
+        PutsWithin 4294967296 (cond (nat_lt code 4) content (headed_fixed order content)) out.old out.new result }
 {
     if code < 4 {
         return encode_value(ty, value, out);
@@ -270,7 +270,7 @@ fn encode_present_piece<K: Sink>(
 ) -> Result<(), Failed>
     ensures { let order = out.old.order in
         let code = code_of (size_of.scalar_size (type_shape member.now.ty)) in
-        PutsWithin 2097152 (piece_fixed order (member_head member.now) code (λ w. fixed order (type_shape member.now.ty) w) (present (val value.now))) out.old out.new result }
+        PutsWithin 4294967296 (piece_fixed order (member_head member.now) code (λ w. fixed order (type_shape member.now.ty) w) (present (val value.now))) out.old out.new result }
 {
     let code = length_code(scalar_size(&member.ty));
     out.number(4, 4, header_of(is_must(member), code, member.id))?;
@@ -285,7 +285,7 @@ fn encode_piece<K: Sink>(
 ) -> Result<(), Failed>
     ensures { let order = out.old.order in
         let code = code_of (size_of.scalar_size (type_shape member.now.ty)) in
-        PutsWithin 2097152 (piece_fixed order (member_head member.now) code (λ w. fixed order (type_shape member.now.ty) w) (slot_of (option_map (λ v. val v.now) slot.entry))) out.old out.new result }
+        PutsWithin 4294967296 (piece_fixed order (member_head member.now) code (λ w. fixed order (type_shape member.now.ty) w) (slot_of (option_map (λ v. val v.now) slot.entry))) out.old out.new result }
 {
     match slot {
         None => Ok(()),
@@ -299,7 +299,7 @@ fn encode_pieces<K: Sink>(
     slots: &[Slot],
     out: &mut Writer<K>,
 ) -> Result<(), Failed>
-    ensures { PutsWithin 2097152 (pieces_fixed out.old.order (members_shape members.now) (slots_val slots.now)) out.old out.new result }
+    ensures { PutsWithin 4294967296 (pieces_fixed out.old.order (members_shape members.now) (slots_val slots.now)) out.old out.new result }
 {
     for at in 0..members.len() {
         encode_piece(&members[at], slot_at(slots, at), out)?;
@@ -314,7 +314,7 @@ fn encode_appendable<K: Sink>(
     out: &mut Writer<K>,
 ) -> Result<(), Failed>
     ensures { let order = out.old.order in
-        PutsWithin 2097152 (headed_fixed order (members_fixed order (members_shape members.now) (slots_val slots.now))) out.old out.new result }
+        PutsWithin 4294967296 (headed_fixed order (members_fixed order (members_shape members.now) (slots_val slots.now))) out.old out.new result }
 {
     encode_count(end_of_members(members, slots, 0), out)?;
     encode_members(members, slots, out)
@@ -327,7 +327,7 @@ fn encode_mutable<K: Sink>(
     out: &mut Writer<K>,
 ) -> Result<(), Failed>
     ensures { let order = out.old.order in
-        PutsWithin 2097152 (headed_fixed order (pieces_fixed order (members_shape members.now) (slots_val slots.now))) out.old out.new result }
+        PutsWithin 4294967296 (headed_fixed order (pieces_fixed order (members_shape members.now) (slots_val slots.now))) out.old out.new result }
 {
     encode_count(end_of_pieces(members, slots, 0), out)?;
     encode_pieces(members, slots, out)
@@ -340,7 +340,7 @@ fn encode_structure<K: Sink>(
     out: &mut Writer<K>,
 ) -> Result<(), Failed>
     ensures { let parts = structure_parts kind.now in
-        PutsWithin 2097152 (structure_fixed out.old.order parts.0 parts.1 (slots_val slots.now)) out.old out.new result }
+        PutsWithin 4294967296 (structure_fixed out.old.order parts.0 parts.1 (slots_val slots.now)) out.old out.new result }
 {
     match kind.ext {
         Ext::Final => encode_members(kind.members.as_slice(), slots, out),
@@ -356,7 +356,7 @@ fn encode_case<K: Sink>(
     body: Option<&Value>,
     out: &mut Writer<K>,
 ) -> Result<(), Failed>
-    ensures { PutsWithin 2097152 (case_fixed out.old.order (cases_shape cases.now) id (slot_of (option_map (λ v. val v.now) body.entry))) out.old out.new result }
+    ensures { PutsWithin 4294967296 (case_fixed out.old.order (cases_shape cases.now) id (slot_of (option_map (λ v. val v.now) body.entry))) out.old out.new result }
 {
     for case in cases {
         if case.id == id {
@@ -375,7 +375,7 @@ fn encode_selected<K: Sink>(
 ) -> Result<(), Failed>
     ensures { let parts = union_parts kind.now in
         let v = val value.now in
-        PutsWithin 2097152 (selected_fixed out.old.order parts.2 parts.3 (vals.disc_in v) (vals.body_in v)) out.old out.new result }
+        PutsWithin 4294967296 (selected_fixed out.old.order parts.2 parts.3 (vals.disc_in v) (vals.body_in v)) out.old out.new result }
 {
     encode_disc(&kind.disc, value, out)?;
     match selected_in(kind.cases.as_slice(), value) {
@@ -393,7 +393,7 @@ fn encode_delimited_union<K: Sink>(
     ensures { let parts = union_parts kind.now in
         let v = val value.now in
         let order = out.old.order in
-        PutsWithin 2097152 (headed_fixed order (selected_fixed order parts.2 parts.3 (vals.disc_in v) (vals.body_in v))) out.old out.new result }
+        PutsWithin 4294967296 (headed_fixed order (selected_fixed order parts.2 parts.3 (vals.disc_in v) (vals.body_in v))) out.old out.new result }
 {
     encode_count(
         end_of_selected(kind, disc_in(value), body_in(value), 0),
@@ -406,7 +406,7 @@ fn encode_delimited_union<K: Sink>(
 fn encode_union<K: Sink>(kind: &UnionType, value: &Value, out: &mut Writer<K>) -> Result<(), Failed>
     ensures { let parts = union_parts kind.now in
         let v = val value.now in
-        PutsWithin 2097152 (union_fixed out.old.order parts.0 parts.2 parts.3 (vals.disc_in v) (vals.body_in v)) out.old out.new result }
+        PutsWithin 4294967296 (union_fixed out.old.order parts.0 parts.2 parts.3 (vals.disc_in v) (vals.body_in v)) out.old out.new result }
 {
     match kind.ext {
         Ext::Final => encode_selected(kind, value, out),
@@ -415,14 +415,13 @@ fn encode_union<K: Sink>(kind: &UnionType, value: &Value, out: &mut Writer<K>) -
     }
 }
 
-/// Writes a value that has fewer than 2,097,152 octets.
+/// Writes the one fixed spelling of `value` in XCDR2, at the writer's place and in its order, as `encode2` does, but of any value whose
+/// spelling there has fewer than 4,294,967,296 octets. Of a longer one some octets are written, of which nothing is said.
+///
+/// A refused call wrote a beginning of the spelling, and comes only where the sink's count of faults rose. It takes no memory.
 #[cycle(encode)]
-pub(crate) fn encode_value<K: Sink>(
-    ty: &XType,
-    value: &Value,
-    out: &mut Writer<K>,
-) -> Result<(), Failed>
-    ensures { PutsWithin 2097152 (fixed out.old.order (type_shape ty.now) (val value.now)) out.old out.new result }
+pub fn encode_value<K: Sink>(ty: &XType, value: &Value, out: &mut Writer<K>) -> Result<(), Failed>
+    ensures { PutsWithin 4294967296 (fixed out.old.order (type_shape ty.now) (val value.now)) out.old out.new result }
 {
     match ty {
         XType::Prim(prim) => encode_scalar(prim_size(*prim), value, out),

@@ -20,9 +20,10 @@ use type_trees::{
     as_prim, select,
 };
 use value_writer::{
-    TOO_FAR, body_in, disc_in, end_of_number, end_of_octets, end_of_run, entries_in, enum_size,
-    items_in, mask_size, octets_in, prim_size, scalar_size, slot_at, slots_in,
+    TOO_FAR, body_in, disc_in, end_of_number, end_of_octets, end_of_run, entries_in, items_in,
+    octets_in, slot_at, slots_in,
 };
+use wire_numbers::{enum_size, mask_size, prim_size, scalar_size};
 use xt_shapes::Ext;
 
 fn end_of_scalar(ty: &XType, place: u64) -> u64

@@ -6,9 +6,7 @@ mod encoding;
 mod ends;
 #[cfg(test)]
 mod examples;
-mod lent;
 mod samples;
-#[cfg(test)]
-mod tests;
 
+pub use encoding::encode_value;
 pub use samples::{encode2, size2, write_sample2};

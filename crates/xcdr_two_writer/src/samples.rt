@@ -6,7 +6,6 @@ ghost use Rattle.xcdr_model.specs.FixedSpelling.{fixed};
 ghost use Rattle.std.specs.Prelude.{OnOk, OnErr};
 ghost use Rattle.xt_outside.specs.Outside.{HasCause, AppendsAll, AppendsPrefix};
 ghost use Rattle.xcdr_model.specs.SampleSpelling.{sample_size, fixed_sample, final_padding, identifier, order_bit};
-ghost use Rattle.xcdr_model.specs.Samples.{top_ext};
 ghost use Rattle.type_trees.specs.Bridge.{type_shape};
 ghost use Rattle.type_trees.specs.View.{val};
 ghost use Rattle.wire_writer.specs.Writing.{Puts};
@@ -14,8 +13,8 @@ ghost use Rattle.xcdr_two_writer.specs.Samples.{sized};
 
 use crate::encoding::encode_value;
 use crate::ends::end_of_value;
-use crate::lent::Lent;
 use type_trees::{Value, XType};
+use wire_numbers::top_of;
 use wire_writer::Writer;
 use xt_outside::{Failed, Sink, write_whole};
 use xt_shapes::{Ext, Order};
@@ -44,25 +43,6 @@ pub fn encode2<K: Sink>(ty: &XType, value: &Value, out: &mut Writer<K>) -> Resul
     ensures { Puts (fixed out.old.order (type_shape ty.now) (val value.now)) out.old out.new result }
 {
     encode_value(ty, value, out)
-}
-
-/// The extensibility of a structure or union behind aliases, which a sample's identifier tells; FINAL for any other type.
-#[tactic(auto, using(type_trees::proofs::Views::tree_rules))]
-fn top_of(ty: &XType) -> Ext
-    ensures { result ≡ top_ext (type_shape ty.now) }
-{
-    match ty {
-        XType::Struct(kind) => kind.ext,
-        XType::Union(kind) => kind.ext,
-        XType::Alias(kind) => top_of(&kind.ty),
-        XType::Prim(_)
-        | XType::Str(_)
-        | XType::Enum(_)
-        | XType::Mask(_)
-        | XType::Seq(_)
-        | XType::Array(_)
-        | XType::Map(_) => Ext::Final,
-    }
 }
 
 fn little_bit(order: Order) -> u8
@@ -116,9 +96,9 @@ fn write_body<K: Sink>(ty: &XType, value: &Value, order: Order, sink: &mut K) ->
     ensures same { K.name sink.new ≡ K.name sink.old }
     ensures cause { HasCause (K.faults sink.old) (K.faults sink.new) result }
 {
-    let mut out = Writer::new(Lent { sink }, order);
+    let mut out = Writer::new(&mut *sink, order);
     let result = write_value(ty, value, &mut out);
-    let Lent { sink: _sink } = out.end();
+    let _sink = out.end();
     result
 }
 

@@ -1,6 +1,6 @@
-use Rattle.std.proofs.Common.{rules, arith, ◌<◌, ◌≤◌, min, ◌≡◌}
-use Rattle.wire_writer.proofs.NumberSteps.{unit_small}
+use Rattle.std.proofs.Common.{arith}
+use Rattle.wire_numbers.proofs.UnitSteps.{unit_small}
 use Rattle.value_writer.proofs.places.end_of_number.Goals as goal
 
-pub overflow_add-pad : goal.overflow_add-pad
-overflow_add-pad c = let small = unit_small c.args.size c.requires.size in grind arith
+pub overflow_add-padding : goal.overflow_add-padding
+overflow_add-padding c = let small = unit_small c.args.size c.requires.size in grind arith

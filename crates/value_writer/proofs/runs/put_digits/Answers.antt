@@ -1,4 +1,4 @@
-use Rattle.std.proofs.Common.{rules, ◌≡◌, ◌+◌, ◌++◌, ◌∷◌, refl, sym, ap, ◌∙◌, ℕ, List, map, drop, [], append-nil, take}
+use Rattle.std.proofs.Common.{rules, ◌≡◌, ◌+◌, ◌++◌, ◌∷◌, refl, sym, ap, ◌∙◌, ℕ, List, map, drop, [], append-nil}
 use Rattle.std.proofs.lemmas.Result.{err_from_is_err_and}
 use Rattle.type_trees.specs.View.{val}
 use Rattle.xcdr_model.specs.Numbers.{octets, raw}
@@ -35,12 +35,12 @@ loop-value-preserved g c limit =
     let more = map val (drop (i + 1) c.args.values.now) in
     let f = c.in_ok-make_room.ensures in
     let next : rest ≡ val v ∷ more = next_val c.args.values.now i v c.loop-value-test.true c.value-item.is in
-    let added : c.add.new.self ≡ f.rest ++ take size c.octets_of.result = c.add.ensures ∙ ap (λ (l : List ℕ). l ++ take size c.octets_of.result) f.left.0 in
     let number : c.raw.result ≡ raw size (number_in (val v)) = search rules in
-    let spelled : take size c.octets_of.result ≡ octets o size (raw size (number_in (val v))) = c.octets_of.ensures ∙ ap (λ n. octets o size n) number in
+    let spelled : octets o size c.raw.result ≡ octets o size (raw size (number_in (val v))) = ap (λ n. octets o size n) number in
+    let added : c.add_number.new.self ≡ f.rest ++ octets o size c.raw.result = c.add_number.ensures ∙ ap (λ (l : List ℕ). l ++ octets o size c.raw.result) f.left.0 in
     let u = left_as (λ p. c.loop-value.block ++ digits_of o size rest) (then_fixed (λ q. f.done) (λ q. f.rest ++ digits_of o size rest)) (λ p. block_parts o size c.loop-value.block f.done f.rest rest p f.parts) (c.loop-value.invariant limit) in
-    left_as (λ q. f.rest ++ digits_of o size rest) (λ q. c.add.new.self ++ digits_of o size more)
-    (λ p. ap (λ vs. f.rest ++ digits_of o size vs) next ∙ block_more o size f.rest c.add.new.self (take size c.octets_of.result) (val v) more added spelled)
+    left_as (λ q. f.rest ++ digits_of o size rest) (λ q. c.add_number.new.self ++ digits_of o size more)
+    (λ p. ap (λ vs. f.rest ++ digits_of o size vs) next ∙ block_more o size f.rest c.add_number.new.self (octets o size c.raw.result) (val v) more added spelled)
     (goes_on (λ q. f.done) (λ q. f.rest ++ digits_of o size rest) u (within f.put))
 
 pub returns : goal.returns

@@ -1,4 +1,4 @@
-use Rattle.std.proofs.Common.{◌≡◌, ℕ, ◌++◌, drop, map}
+use Rattle.std.proofs.Common.{ℕ, ◌++◌, drop, map}
 use Rattle.type_trees.specs.View.{val}
 use Rattle.wire_writer.proofs.Puts.{Going}
 use Rattle.value_writer.specs.Runs.{digits_of}

@@ -1,4 +1,4 @@
-use Rattle.std.proofs.Common.{rules, ◌≡◌, refl, sym, ap, ◌∙◌, ℕ, List, map, min}
+use Rattle.std.proofs.Common.{sym, ap, ◌∙◌, ℕ, map}
 use Rattle.std.proofs.lemmas.Result.{err_from_is_err_and}
 use Rattle.type_trees.specs.View.{val}
 use Rattle.xcdr_model.specs.FixedSpelling.{nothing, then_fixed}

@@ -1,23 +1,19 @@
-use Rattle.std.proofs.Common.{rules, arith, refl, sym, ap, ◌∙◌, ◌≡◌, ℕ, ℤ, pos, ◌+◌, ◌-◌, ◌^◌, ◌==◌, ◌&&◌, Ok, Err, true, false, nat_lt, nat_le, IfOk}
-use Rattle.std.proofs.lemmas.Bool.{le-ltb, lt-ltb}
+use Rattle.std.proofs.Common.{rules, ◌==◌, Ok}
 use Rattle.std.proofs.lemmas.Result.{err_from_is_err_and}
-use Rattle.xt_shapes.specs.Sizes.{size, is_boolean, is_signed, enum_size, mask_size}
-use Rattle.xcdr_model.specs.declared.malformed.Why.TheVariants as why
+use Rattle.xt_shapes.specs.Sizes.{enum_size}
 use Rattle.xcdr_model.specs.Numbers.{with_sign}
-use Rattle.xcdr_model.specs.Reading.{fault_at, ◌>>=◌}
 use Rattle.wire_cursor.specs.Decoding.{Decodes}
 use Rattle.wire_cursor.specs.Steps.{placed_at}
 use Rattle.wire_cursor.specs.Placing.{placed_view}
-use Rattle.wire_cursor.proofs.Ahead.{Ahead, goes_on, fails, ends, rephrased, malformed}
+use Rattle.wire_cursor.proofs.Ahead.{goes_on, fails, ends}
 use Rattle.wire_scalars.proofs.ScalarSteps.{enum_starts, enum_value}
-use Rattle.wire_scalars.specs.Scalars.{enum_at}
 use Rattle.wire_scalars.proofs.scalars.read_enum.Goals as goal
 
 pub returns-in_err-placed : goal.returns-in_err-placed
 returns-in_err-placed g c =
     let a = g.C.Cursor.state c.args.cursor.now in
     let p = err_from_is_err_and c.from_residual.result c.from_residual.ensures.1 in
-    rw (p.1, p.2) (fails (placed_view a) (λ i. i) (placed_at c.args.most (enum_size c.args.bits)) (enum_value c.args.bits) (enum_starts c.args.most c.args.bits a) (rw (← c.enum_size-size.ensures.value) c.in_err-placed.ensures.value))
+    rw (p.1, p.2) (fails (placed_view a) (λ i. i) (placed_at c.args.most (enum_size c.args.bits)) (enum_value c.args.bits) (enum_starts c.args.most c.args.bits a) (rw (← c.enum_size-size.ensures.size) c.in_err-placed.ensures.value))
 
 pub returns : goal.returns
 returns g c =
@@ -26,6 +22,6 @@ returns g c =
     let k = enum_size c.args.bits in
     let d = c.in_ok-placed.ensures in
     let b = g.C.Cursor.state c.read_placed.new.cursor in
-    let dv : Decodes (placed_view a) (placed_at c.args.most k) a b (Ok n) = rw (← c.enum_size-size.ensures.value) d.value in
+    let dv : Decodes (placed_view a) (placed_at c.args.most k) a b (Ok n) = rw (← c.enum_size-size.ensures.size) d.value in
     let u = goes_on (placed_view a) (placed_at c.args.most k) (enum_value c.args.bits) (enum_starts c.args.most c.args.bits a) dv in
     ends (λ i. i) (λ o. with_sign k (k == 4) n.number) u (search rules)

@@ -1,14 +1,11 @@
-use Rattle.std.proofs.Common.{rules, arith, refl, sym, ap, ◌∙◌, ◌≡◌, ℕ, ℤ, pos, ◌+◌, ◌-◌, ◌^◌, ◌==◌, ◌&&◌, Ok, Err, true, false, nat_lt, nat_le, IfOk}
+use Rattle.std.proofs.Common.{arith, refl, ◌≡◌, ◌-◌, ◌==◌, Ok, true, false, nat_lt}
 use Rattle.std.proofs.lemmas.Bool.{le-ltb, lt-ltb}
 use Rattle.std.proofs.lemmas.Result.{err_from_is_err_and}
-use Rattle.xt_shapes.specs.Sizes.{size, is_boolean, is_signed, enum_size, mask_size}
 use Rattle.xcdr_model.specs.declared.malformed.Why.TheVariants as why
-use Rattle.xcdr_model.specs.Numbers.{with_sign}
 use Rattle.xcdr_model.specs.Reading.{fault_at, ◌>>=◌}
-use Rattle.wire_cursor.specs.Decoding.{Decodes}
 use Rattle.wire_cursor.specs.Steps.{placed_at}
 use Rattle.wire_cursor.specs.Placing.{placed_view}
-use Rattle.wire_cursor.proofs.Ahead.{Ahead, goes_on, fails, ends, rephrased, malformed}
+use Rattle.wire_cursor.proofs.Ahead.{goes_on, fails, ends, rephrased, malformed}
 use Rattle.wire_scalars.proofs.ScalarSteps.{presence_starts, presence}
 use Rattle.wire_scalars.proofs.scalars.read_presence.Goals as goal
 

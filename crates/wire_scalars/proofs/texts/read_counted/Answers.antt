@@ -1,13 +1,13 @@
-use Rattle.std.proofs.Common.{rules, arith, refl, sym, ap, ◌∙◌, ◌≡◌, ℕ, Bool, List, Ok, ◌+◌, ◌-◌, ◌<◌, true, false, not, ◌||◌, ◌++◌, ◌==◌, nat_lt, length, take}
-use Rattle.std.proofs.lemmas.Bool.{lt-ltb, not-true}
+use Rattle.std.proofs.Common.{rules, arith, refl, ap, ◌∙◌, ◌≡◌, ℕ, Bool, List, Ok, ◌-◌, true, false, not, ◌||◌, ◌++◌, ◌==◌, nat_lt, length, take}
+use Rattle.std.proofs.lemmas.Bool.{lt-ltb}
 use Rattle.std.proofs.Math.Seq.{take-append_seam}
 use Rattle.std.proofs.lemmas.Result.{err_from_is_err_and}
 use Rattle.xt_shapes.specs.Lists.{has}
 use Rattle.xcdr_model.specs.declared.malformed.Why.TheVariants.{Short, Str}
-use Rattle.xcdr_model.specs.Reading.{Spot, Reading, fault_at, octets_at, ◌>>=◌}
-use Rattle.wire_cursor.specs.Standing.{Standing, room}
+use Rattle.xcdr_model.specs.Reading.{fault_at, octets_at, ◌>>=◌}
+use Rattle.wire_cursor.specs.Standing.{room}
 use Rattle.wire_cursor.specs.Placing.{placed_view}
-use Rattle.wire_cursor.proofs.Ahead.{Ahead, begins, goes_on, fails, ends, rephrased, malformed, no_memory, room_is}
+use Rattle.wire_cursor.proofs.Ahead.{begins, goes_on, fails, ends, rephrased, malformed, room_is}
 use Rattle.wire_scalars.specs.Texts.{counted_text}
 use Rattle.wire_scalars.proofs.TextSteps.{text_octets, text_checked}
 use Rattle.wire_scalars.proofs.texts.read_counted.Goals as goal

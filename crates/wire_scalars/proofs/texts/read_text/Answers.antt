@@ -1,12 +1,11 @@
-use Rattle.std.proofs.Common.{rules, arith, refl, ◌≡◌, ◌+◌, ◌-◌, true, false, nat_eq, eq-eqb}
+use Rattle.std.proofs.Common.{arith, refl, ◌-◌, eq-eqb}
 use Rattle.std.proofs.lemmas.Bool.{ne_eqb}
 use Rattle.std.proofs.lemmas.Result.{err_from_is_err_and}
 use Rattle.xcdr_model.specs.declared.malformed.Why.TheVariants.{Str}
 use Rattle.xcdr_model.specs.Reading.{fault_at}
-use Rattle.xcdr_model.specs.Xcdr2Reading.{text_at}
 use Rattle.wire_cursor.specs.Steps.{placed_at}
 use Rattle.wire_cursor.specs.Placing.{placed_view}
-use Rattle.wire_cursor.proofs.Ahead.{Ahead, goes_on, fails, last, rephrased, malformed}
+use Rattle.wire_cursor.proofs.Ahead.{goes_on, fails, last, rephrased, malformed}
 use Rattle.wire_scalars.specs.Texts.{counted_text}
 use Rattle.wire_scalars.proofs.TextSteps.{text_starts, text_behind}
 use Rattle.wire_scalars.proofs.texts.read_text.Goals as goal

@@ -1,5 +1,6 @@
 use Rattle.std.proofs.Common.{rules, refl, arith}
-use Rattle.wire_writer.proofs.NumberSteps.{one_high, unit_small}
+use Rattle.wire_numbers.proofs.UnitSteps.{unit_small}
+use Rattle.wire_writer.proofs.NumberSteps.{one_high}
 use Rattle.wire_writer.proofs.digits.high_octets.Goals as goal
 
 pub loop-at-preserved : goal.loop-at-preserved

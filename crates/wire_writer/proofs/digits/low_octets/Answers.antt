@@ -1,5 +1,10 @@
+use Rattle.std.proofs.Common.{◌≡◌, ◌++◌, ◌∙◌, [], append-nil}
+use Rattle.std.specs.Int.{bytes_low_first}
 use Rattle.wire_writer.proofs.NumberSteps.{low_front}
 use Rattle.wire_writer.proofs.digits.low_octets.Goals as goal
 
 pub returns : goal.returns
-returns c = rw c.to_le_bytes.ensures (low_front c.args.size c.args.number c.requires)
+returns c =
+    let written : c.write_u128.new.buf ≡ bytes_low_first 0 16 c.args.number ++ [] = c.write_u128.ensures in
+    let is : c.write_u128.new.buf ≡ bytes_low_first 0 16 c.args.number = written ∙ append-nil (bytes_low_first 0 16 c.args.number) in
+    rw is (low_front c.args.size c.args.number c.requires)

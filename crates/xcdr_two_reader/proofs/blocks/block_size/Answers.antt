@@ -7,7 +7,7 @@ pub returns-clause-block : goal.returns-clause-block
 returns-clause-block g c =
     let p = c.args.prim in
     let a = g.C.Cursor.state c.args.cursor.now in
-    let size_is = c.size_of-size.ensures.value in
+    let size_is = c.prim_size-size.ensures.size in
     let place : c.place-place.result ≡ a.place = c.place-place.ensures ∙ c.resume.ensures.place ∙ c.restart-origin.ensures.value.place in
     let end : c.region_end.result ≡ a.region_end = c.region_end.ensures ∙ c.resume.ensures.region_end ∙ c.restart-origin.ensures.value.region_end in
     let unit : c.from.result ≡ min (size p) 4 = c.from.ensures ∙ c.min.ensures ∙ ap (λ (n : ℕ). min n 4) size_is in

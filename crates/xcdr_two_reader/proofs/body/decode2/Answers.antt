@@ -10,7 +10,9 @@ use Rattle.xcdr_model.specs.Xcdr2Reading.{read}
 use Rattle.settled_parts.specs.Parts.{part_of}
 use Rattle.settled_parts.specs.Settling.{outcome_val}
 use Rattle.wire_cursor.specs.Standing.{Standing}
+use Rattle.xt_shapes.specs.declared.leaves.Rep.TheVariants.{Xcdr2}
 use Rattle.wire_cursor.proofs.Ahead.{Ahead, begins, goes_on, fails, ends}
+use Rattle.wire_cursor.proofs.Outcomes.{comes_typed, comes_light}
 use Rattle.xcdr_two_reader.specs.Bodies.{value_outcome}
 use Rattle.xcdr_two_reader.proofs.body.decode2.Goals as goal
 
@@ -24,10 +26,16 @@ pub returns-in_err-part : goal.returns-in_err-part
 returns-in_err-part g c =
     let t = type_shape c.args.reader.now in
     let p = err_from_is_err_and c.from_residual.result c.from_residual.ensures.1 in
-    rw (p.1, p.2) (fails part_of outcome_val (λ o s. read o t s) made (starts t (g.C.Cursor.state c.args.cursor.now)) c.in_err-part.ensures)
+    rw (p.1, p.2) (record { typed = tt; light = tt; value = fails part_of outcome_val (λ o s. read o t s) made (starts t (g.C.Cursor.state c.args.cursor.now)) c.in_err-part.ensures })
 
 pub returns : goal.returns
 returns g c =
     let t = type_shape c.args.reader.now in
+    let kept = c.shape_keeps_rules.ensures _ c.requires in
     let u = goes_on part_of (λ o s. read o t s) made (starts t (g.C.Cursor.state c.args.cursor.now)) c.in_ok-part.ensures in
-    ends outcome_val (λ o. outcome_of (part_of c.in_ok-part.part)) u c.outcome.ensures
+    let value = ends outcome_val (λ o. outcome_of (part_of c.in_ok-part.part)) u c.outcome.ensures in
+    record {
+      typed = comes_typed outcome_val Xcdr2 t (λ o s s2 v u small is. c.value_typed.ensures Xcdr2 o t s s2 v u kept small is) value;
+      light = comes_light outcome_val Xcdr2 t (g.met.C.Cursor.stands c.args.cursor.now) (g.met.C.Cursor.stands c.read_part.new.cursor) (λ o s s2 v u is. c.value_nodes_bound.ensures Xcdr2 o t s s2 v u kept is) value;
+      value = value;
+    }

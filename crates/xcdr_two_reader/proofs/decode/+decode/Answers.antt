@@ -1,4 +1,4 @@
-use Rattle.std.proofs.Common.{rules, arith, ap₂, [], ◌∷◌, ◌++◌, ◌||◌, ◌-◌, ◌+◌, subst, get_or, refl, sym, ap, ◌∙◌, ◌≡◌, ℕ, ℤ, Bool, true, false, Ok, Some, None}
+use Rattle.std.proofs.Common.{rules, arith, List, Option, ap₂, [], ◌∷◌, ◌++◌, ◌||◌, ◌-◌, ◌+◌, subst, get_or, refl, sym, ap, ◌∙◌, ◌≡◌, ℕ, ℤ, Bool, true, false, Ok, Some, None}
 use Rattle.std.proofs.lemmas.Result.{err_from_is_err_and}
 use Rattle.xt_shapes.specs.declared.leaves.Order.{Order}
 use Rattle.xt_shapes.specs.Defaults.{default_of}
@@ -8,7 +8,7 @@ use Rattle.type_trees.specs.Bridge.{type_shape, members_shape, member_head, case
 use Rattle.xcdr_model.specs.Projection as model
 use Rattle.xcdr_model.specs.Reading.{Spot, Reading, fault_at, number_at, filling}
 use Rattle.xcdr_model.specs.Xcdr2Reading.{read, scalar_at}
-use Rattle.settled_parts.specs.Parts.{part_of, settled_of}
+use Rattle.settled_parts.specs.Parts.{part_of}
 use Rattle.settled_parts.specs.Unions.{case_of}
 use Rattle.settled_parts.specs.Items as items
 use Rattle.settled_parts.specs.Items.{items_of, items_then, and_item}
@@ -21,9 +21,9 @@ use Rattle.wire_cursor.proofs.Ahead.{Ahead, begins, goes_on, fails, ends, last, 
 use Rattle.wire_cursor.proofs.Regions.{may_close, may_leave, filled_fails, filled_closes, content_stops}
 use Rattle.xcdr_two_steps.specs.Bounds.{counted, whether_at}
 use Rattle.xcdr_two_reader.proofs.InBlocks.{prim_is, items_given}
-use Rattle.xcdr_two_reader.specs.Parts.{items_read, slot_read, entry_at, case_read, body_read, whole_read}
+use Rattle.xcdr_two_reader.specs.Parts.{items_read, slot_more, entry_at, case_read, body_read, whole_read}
 use Rattle.xt_shapes.specs.Shape.{Cases}
-use Rattle.xt_shapes.specs.Vals.{int}
+use Rattle.xt_shapes.specs.Vals.{int, Slot as Body}
 use Rattle.std.proofs.Common.{Result, cond}
 use Rattle.wire_cursor.specs.declared.faults.DecodeFault.{DecodeFault}
 use Rattle.xcdr_two_steps.specs.declared.choices.Choice.{Choice}
@@ -38,7 +38,7 @@ use Rattle.xt_shapes.specs.declared.leaves.Ext.TheVariants.{Final, Appendable, M
 use Rattle.xcdr_two_reader.proofs.KindSteps.{struct_inside, union_is_inside}
 use Rattle.xcdr_two_reader.proofs.InOrder.{slot_part}
 use Rattle.xcdr_two_reader.proofs.PartSteps.{unopened, inside_fails, closed, not_closed, rest_filled}
-use Rattle.xcdr_two_reader.proofs.DecodeSteps.{part_next, part_none, value_at, items_behind, items_begin, items_counted, items_law, item_then, entries_behind, entries_begin, entries_counted, entry_then, value_then, entry_next, members_from, member_next, members_none, members_begin, sound_more, slot_behind, slot_begin, slot_absent, slot_there, slot_made}
+use Rattle.xcdr_two_reader.proofs.DecodeSteps.{part_next, part_none, value_at, items_behind, items_begin, items_counted, items_law, item_then, entries_behind, entries_begin, entries_counted, entry_then, value_then, entry_next, members_from, members_none, members_begin, sound_more, more_next, more_behind, more_begin, more_absent, more_made, more_there}
 use denote.Param.Weighed.{at_most}
 use Rattle.type_trees.specs.declared.types.Member.{Member}
 use Rattle.type_trees.proofs.types.Case.TheLaws as case_laws
@@ -120,14 +120,14 @@ read_members-loop-member-init g t c = record {
   sound = c.requires.sound;
 }
 
-pub read_members-returns-in_err-slot : goal.read_members-returns-in_err-slot
-read_members-returns-in_err-slot g t c =
+pub read_members-returns-in_err-read_slot : goal.read_members-returns-in_err-read_slot
+read_members-returns-in_err-read_slot g t c =
     let m = c.member-item.result in
     let ms = c.args.members.now in
     let i = c.loop-member.member-index in
     let so = slots_of c.loop-member.slots in
     let p = err_from_is_err_and c.from_residual.result c.from_residual.ensures.1 in
-    rw (p.1, p.2) (fails settled_of part_of (slot_read c.args.cut (member_head m) (type_shape m.ty)) (λ x. members_from c.args.cut ms (i + 1) (and_slot so x)) (member_next c.args.cut ms i m so c.loop-member-test.true c.member-item.is c.loop-member.invariant.ahead) c.in_err-slot.ensures)
+    rw (p.1, p.2) (fails (λ u. slots_of c.read_slot.new.slots) part_of (slot_more c.args.cut (member_head m) (type_shape m.ty) so) (λ x. members_from c.args.cut ms (i + 1) x) (more_next c.args.cut ms i m so c.loop-member-test.true c.member-item.is c.loop-member.invariant.ahead) c.in_err-read_slot.ensures)
 
 pub read_members-loop-member-preserved : goal.read_members-loop-member-preserved
 read_members-loop-member-preserved g t c =
@@ -135,9 +135,8 @@ read_members-loop-member-preserved g t c =
     let ms = c.args.members.now in
     let i = c.loop-member.member-index in
     let so = slots_of c.loop-member.slots in
-    let u = goes_on settled_of (slot_read c.args.cut (member_head m) (type_shape m.ty)) (λ x. members_from c.args.cut ms (i + 1) (and_slot so x)) (member_next c.args.cut ms i m so c.loop-member-test.true c.member-item.is c.loop-member.invariant.ahead) c.in_ok-slot.ensures in
     record {
-      ahead = rw c.in_ok-take.ensures u;
+      ahead = goes_on (λ u. slots_of c.read_slot.new.slots) (slot_more c.args.cut (member_head m) (type_shape m.ty) so) (λ x. members_from c.args.cut ms (i + 1) x) (more_next c.args.cut ms i m so c.loop-member-test.true c.member-item.is c.loop-member.invariant.ahead) c.in_ok-read_slot.ensures;
       sound = sound_more ms i m c.loop-member.invariant.sound c.loop-member-test.true;
     }
 
@@ -152,43 +151,51 @@ pub read_slot-returns-in_err-there : goal.read_slot-returns-in_err-there
 read_slot-returns-in_err-there g t c =
     let m = c.args.member.now in
     let h = member_head m in
+    let T = type_shape m.ty in
+    let so = slots_of c.args.slots.now in
     let p = err_from_is_err_and c.from_residual.result c.from_residual.ensures.1 in
-    rw (p.1, p.2) (fails (λ b. b) settled_of (whether_at c.args.cut m.optional) (slot_behind h (type_shape m.ty)) (slot_begin c.args.cut h (type_shape m.ty) (g.C.Cursor.state c.args.cursor.now)) c.in_err-there.ensures)
+    rw (p.1, p.2) (fails (λ b. b) (λ u. so) (whether_at c.args.cut m.optional) (more_behind h T so) (more_begin c.args.cut h T so (g.C.Cursor.state c.args.cursor.now)) c.in_err-there.ensures)
 
-abbrev told : Bool → Bool → Head → Shape → Standing → Standing → Type 0
-told cut there h t a b = Ahead (slot_read cut h t) (slot_behind h t there) a b
+abbrev told : Bool → Bool → Head → Shape → Option (List Body) × Bool → Standing → Standing → Type 0
+told cut there h t so a b = Ahead (slot_more cut h t so) (more_behind h t so there) a b
 
 pub read_slot-returns-then-not-there : goal.read_slot-returns-then-not-there
 read_slot-returns-then-not-there g t c =
     let m = c.args.member.now in
     let h = member_head m in
     let T = type_shape m.ty in
+    let so = slots_of c.args.slots.now in
+    let a = g.C.Cursor.state c.args.cursor.now in
     let b = g.C.Cursor.state c.read_whether.new.cursor in
-    let u = goes_on (λ b. b) (whether_at c.args.cut m.optional) (slot_behind h T) (slot_begin c.args.cut h T (g.C.Cursor.state c.args.cursor.now)) c.in_ok-there.ensures in
-    let v : told c.args.cut false h T (g.C.Cursor.state c.args.cursor.now) b = subst (λ (k : Bool). told c.args.cut k h T (g.C.Cursor.state c.args.cursor.now) b) c.if-not-there.true u in
-    ends settled_of (λ o. slot_part h T None) (slot_absent h T v) c.in_ok-slot_from.ensures
+    let u = goes_on (λ b. b) (whether_at c.args.cut m.optional) (more_behind h T so) (more_begin c.args.cut h T so a) c.in_ok-there.ensures in
+    let v : told c.args.cut false h T so a b = subst (λ (k : Bool). told c.args.cut k h T so a b) c.if-not-there.true u in
+    ends (λ u. slots_of c.take.new.self) (λ o. and_slot so (slot_part h T None)) (more_absent h T so v) (c.in_ok-take.ensures ∙ ap (and_slot so) c.in_ok-settled.ensures)
 
 pub read_slot-returns-in_err-part : goal.read_slot-returns-in_err-part
 read_slot-returns-in_err-part g t c =
     let m = c.args.member.now in
     let h = member_head m in
     let T = type_shape m.ty in
+    let so = slots_of c.args.slots.now in
+    let a = g.C.Cursor.state c.args.cursor.now in
     let b = g.C.Cursor.state c.read_whether.new.cursor in
-    let u = goes_on (λ b. b) (whether_at c.args.cut m.optional) (slot_behind h T) (slot_begin c.args.cut h T (g.C.Cursor.state c.args.cursor.now)) c.in_ok-there.ensures in
-    let v : told c.args.cut true h T (g.C.Cursor.state c.args.cursor.now) b = subst (λ (k : Bool). told c.args.cut k h T (g.C.Cursor.state c.args.cursor.now) b) c.if-not-there.false u in
+    let u = goes_on (λ b. b) (whether_at c.args.cut m.optional) (more_behind h T so) (more_begin c.args.cut h T so a) c.in_ok-there.ensures in
+    let v : told c.args.cut true h T so a b = subst (λ (k : Bool). told c.args.cut k h T so a b) c.if-not-there.false u in
     let p = err_from_is_err_and c.from_residual-in_err-part.result c.from_residual-in_err-part.ensures.1 in
-    rw (p.1, p.2) (fails part_of settled_of (value_at T) (slot_made h T) (slot_there h T v) c.in_err-part.ensures)
+    rw (p.1, p.2) (fails part_of (λ u. so) (value_at T) (more_made h T so) (more_there h T so v) c.in_err-part.ensures)
 
 pub read_slot-returns : goal.read_slot-returns
 read_slot-returns g t c =
     let m = c.args.member.now in
     let h = member_head m in
     let T = type_shape m.ty in
+    let so = slots_of c.args.slots.now in
+    let a = g.C.Cursor.state c.args.cursor.now in
     let b = g.C.Cursor.state c.read_whether.new.cursor in
-    let u = goes_on (λ b. b) (whether_at c.args.cut m.optional) (slot_behind h T) (slot_begin c.args.cut h T (g.C.Cursor.state c.args.cursor.now)) c.in_ok-there.ensures in
-    let v : told c.args.cut true h T (g.C.Cursor.state c.args.cursor.now) b = subst (λ (k : Bool). told c.args.cut k h T (g.C.Cursor.state c.args.cursor.now) b) c.if-not-there.false u in
-    let w = goes_on part_of (value_at T) (slot_made h T) (slot_there h T v) c.in_ok-part.ensures in
-    ends settled_of (λ o. slot_part h T (Some (part_of c.in_ok-part.part))) w c.in_ok-slot_from-2.ensures
+    let u = goes_on (λ b. b) (whether_at c.args.cut m.optional) (more_behind h T so) (more_begin c.args.cut h T so a) c.in_ok-there.ensures in
+    let v : told c.args.cut true h T so a b = subst (λ (k : Bool). told c.args.cut k h T so a b) c.if-not-there.false u in
+    let w = goes_on part_of (value_at T) (more_made h T so) (more_there h T so v) c.in_ok-part.ensures in
+    ends (λ u. slots_of c.take_part.new.self) (λ o. and_slot so (slot_part h T (Some (part_of c.in_ok-part.part)))) w c.in_ok-take_part.ensures
 
 -- ---- the entries of a map
 

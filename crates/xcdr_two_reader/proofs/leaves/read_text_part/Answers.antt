@@ -1,4 +1,4 @@
-use Rattle.std.proofs.Common.{ℕ, List, Ok, refl, ap, ◌∙◌, false}
+use Rattle.std.proofs.Common.{ℕ, List, Ok, refl, false}
 use Rattle.std.proofs.lemmas.Result.{err_from_is_err_and}
 use Rattle.xt_shapes.specs.declared.leaves.Order.{Order}
 use Rattle.xt_shapes.specs.Shape as model
@@ -25,4 +25,4 @@ returns-in_err-octets g c =
 pub returns : goal.returns
 returns g c =
     let u = goes_on (λ v. v.items) text_at (made c.args.bound) (starts c.args.bound (g.C.Cursor.state c.args.cursor.now)) c.in_ok-octets.ensures in
-    ends part_of (λ o. (gather_text c.args.bound c.in_ok-octets.octets.items, false)) u (c.in_ok-text_part.ensures ∙ ap (λ (t : List ℕ). (gather_text c.args.bound t, false)) c.deref.ensures.value)
+    ends part_of (λ o. (gather_text c.args.bound c.in_ok-octets.octets.items, false)) u c.text_from.ensures

@@ -1,13 +1,13 @@
-use Rattle.std.proofs.Common.{rules, ◌≡◌, ◌∙◌, refl, sym, ap, arith, ℕ, ◌+◌, ◌*◌, ◌^◌, ◌<◌, ◌∷◌, List, map, drop, Option, Some, None, true, false, length, Bool, ◌&&◌, inl, inr, cond, nat_lt}
+use Rattle.std.proofs.Common.{rules, ◌≡◌, ◌∙◌, refl, sym, ap, ℕ, ◌+◌, ◌*◌, ◌^◌, map, drop, Some, None, false, length, Bool, ◌&&◌, cond, nat_lt}
 use Rattle.std.proofs.lemmas.Result.{err_from_is_err_and}
 use Rattle.std.specs.Option.{option_map}
 use Rattle.xt_shapes.specs.declared.leaves.Order.{Order}
 use Rattle.xt_shapes.specs.declared.leaves.Order.TheVariants.{Little}
 use Rattle.xt_shapes.specs.Select as selects
 use Rattle.xt_shapes.specs.Select.{select}
-use Rattle.xt_shapes.specs.Vals.{Val, Slot, absent, present, first, disc_in, body_in, number_in}
+use Rattle.xt_shapes.specs.Vals.{Val, absent, present, first, disc_in, body_in, number_in}
 use Rattle.xt_shapes.specs.Sizes.{size, enum_size, mask_size}
-use Rattle.xcdr_model.specs.FixedSpelling.{Fixed, nothing, fixed, then_fixed, number_fixed, headed_fixed, each_fixed, slot_fixed, piece_fixed, code_of, scalar_size, members_fixed, pieces_fixed, case_fixed, if_present_fixed, scalar_fixed, if_selected_fixed, counted_fixed}
+use Rattle.xcdr_model.specs.FixedSpelling.{Fixed, nothing, fixed, then_fixed, number_fixed, headed_fixed, slot_fixed, piece_fixed, code_of, scalar_size, members_fixed, pieces_fixed, case_fixed, if_present_fixed, scalar_fixed, if_selected_fixed, counted_fixed}
 use Rattle.xcdr_model.specs.Numbers.{raw}
 use Rattle.xcdr_model.specs.Xcdr2Reading.{is_primitive}
 use Rattle.xcdr_model.specs.Xcdr2Spelling.{bit}
@@ -15,13 +15,13 @@ use Rattle.type_trees.specs.Bridge.{type_shape, members_shape, cases_shape, memb
 use Rattle.type_trees.specs.Parts.{structure_parts, union_parts}
 use Rattle.type_trees.specs.View.{val, pair_val, slots_val}
 use Rattle.wire_writer.specs.Writing.{PutsWithin}
-use Rattle.wire_writer.proofs.Puts.{Going, begins, within, left_as, same_puts, puts_nothing}
+use Rattle.wire_writer.proofs.Puts.{begins, within, left_as, same_puts, puts_nothing}
 use Rattle.std.proofs.lemmas.List.{length-map}
 use Rattle.value_writer.specs.Places.{end_of}
 use Rattle.value_writer.specs.Slots.{slot_of}
 use Rattle.value_writer.specs.Runs.{run_fixed}
 use Rattle.value_writer.proofs.Parts.{next_val, no_more_vals}
-use Rattle.xcdr_two_writer.specs.Parts.{items_fixed, entries_fixed, sequence_fixed, array_fixed, map_fixed, structure_fixed, selected_fixed, union_fixed, presence_fixed}
+use Rattle.xcdr_two_writer.specs.Parts.{items_fixed, entries_fixed, sequence_fixed, array_fixed, map_fixed, structure_fixed, selected_fixed, presence_fixed}
 use Rattle.type_trees.specs.declared.types.EnumType.{EnumType}
 use Rattle.type_trees.specs.declared.types.MaskType.{MaskType}
 use Rattle.xcdr_two_writer.proofs.SizeSteps as steps
@@ -184,7 +184,7 @@ encode_counted_entries-returns g t c =
     two (counted_fixed o f es) (number_fixed 4 o 4 (length c.args.entries.now)) (λ (k : Order). entries_fixed k key value es) (steps.counted_parts o f es (length c.args.entries.now) (sym (length-map c.args.entries.now pair_val))) (within c.in_ok-encode_count.ensures) c.encode_entries.ensures
 
 pub encode_each-loop-value-init : goal.encode_each-loop-value-init
-encode_each-loop-value-init g t c = begins 2097152 _ _ c.args.out.now (λ p. refl)
+encode_each-loop-value-init g t c = begins 4294967296 _ _ c.args.out.now (λ p. refl)
 
 pub encode_each-returns-in_err-encode_value : goal.encode_each-returns-in_err-encode_value
 encode_each-returns-in_err-encode_value g t c =
@@ -221,11 +221,11 @@ encode_items-returns-in-Some g t c =
     let o = c.args.out.now.order in
     let vs = map val c.args.values.now in
     let p = c.in-Some.prim in
-    let run : PutsWithin 2097152 (run_fixed 4 o (size p) vs) c.args.out.now c.put_run.new.out c.put_run.result = rw (← c.prim_size.ensures.size) (within c.put_run.ensures) in
+    let run : PutsWithin 4294967296 (run_fixed 4 o (size p) vs) c.args.out.now c.put_run.new.out c.put_run.result = rw (← c.prim_size.ensures.size) (within c.put_run.ensures) in
     put_as (items_fixed o (type_shape c.args.ty.now) vs) (run_fixed 4 o (size p) vs) (steps.items_are o (type_shape c.args.ty.now) p vs (sym c.in-Some.ensures)) run
 
 pub encode_entries-loop-entry-init : goal.encode_entries-loop-entry-init
-encode_entries-loop-entry-init g t c = begins 2097152 _ _ c.args.out.now (λ p. refl)
+encode_entries-loop-entry-init g t c = begins 4294967296 _ _ c.args.out.now (λ p. refl)
 
 pub encode_entries-returns-in_err-encode_value : goal.encode_entries-returns-in_err-encode_value
 encode_entries-returns-in_err-encode_value g t c =
@@ -291,7 +291,7 @@ encode_entries-returns g t c =
     all_done (entries_fixed o key value (map pair_val es)) (entries_fixed o key value (map pair_val (drop c.loop-entry.entry-index es))) c.loop-entry.invariant (ap (λ ys. entries_fixed o key value ys) (steps.no_more_entries es c.loop-entry.entry-index c.loop-entry-test.false))
 
 pub encode_members-loop-at-init : goal.encode_members-loop-at-init
-encode_members-loop-at-init g t c = begins 2097152 _ _ c.args.out.now (λ p. refl)
+encode_members-loop-at-init g t c = begins 4294967296 _ _ c.args.out.now (λ p. refl)
 
 pub encode_members-returns-in_err-encode_slot : goal.encode_members-returns-in_err-encode_slot
 encode_members-returns-in_err-encode_slot g t c =
@@ -330,7 +330,7 @@ encode_members-returns g t c =
     all_done (members_fixed o (members_shape ms) (slots_val ss)) (members_fixed o (members_shape (drop c.loop-at.at ms)) (slots_val (drop c.loop-at.at ss))) c.loop-at.invariant (steps.members_end o ms ss c.loop-at.at c.loop-at-test.false)
 
 pub encode_pieces-loop-at-init : goal.encode_pieces-loop-at-init
-encode_pieces-loop-at-init g t c = begins 2097152 _ _ c.args.out.now (λ p. refl)
+encode_pieces-loop-at-init g t c = begins 4294967296 _ _ c.args.out.now (λ p. refl)
 
 pub encode_pieces-returns-in_err-encode_piece : goal.encode_pieces-returns-in_err-encode_piece
 encode_pieces-returns-in_err-encode_piece g t c =

@@ -12,24 +12,24 @@ abbrev pub invariant-encode_each-loop-value : goal.invariant-encode_each-loop-va
 invariant-encode_each-loop-value g l =
     let o = l.initial.out.order in
     let shape = type_shape l.ty in
-    Going 2097152 (items_fixed o shape (map val l.values)) (items_fixed o shape (map val (drop l.value-index l.values))) l.initial.out l.out
+    Going 4294967296 (items_fixed o shape (map val l.values)) (items_fixed o shape (map val (drop l.value-index l.values))) l.initial.out l.out
 
 abbrev pub invariant-encode_entries-loop-entry : goal.invariant-encode_entries-loop-entry
 invariant-encode_entries-loop-entry g l =
     let o = l.initial.out.order in
     let key = type_shape l.kind.key.ty in
     let value = type_shape l.kind.value.ty in
-    Going 2097152 (entries_fixed o key value (map pair_val l.entries)) (entries_fixed o key value (map pair_val (drop l.entry-index l.entries))) l.initial.out l.out
+    Going 4294967296 (entries_fixed o key value (map pair_val l.entries)) (entries_fixed o key value (map pair_val (drop l.entry-index l.entries))) l.initial.out l.out
 
 abbrev pub invariant-encode_members-loop-at : goal.invariant-encode_members-loop-at
 invariant-encode_members-loop-at g l =
     let o = l.initial.out.order in
-    Going 2097152 (members_fixed o (members_shape l.members) (slots_val l.slots)) (members_fixed o (members_shape (drop l.at l.members)) (slots_val (drop l.at l.slots))) l.initial.out l.out
+    Going 4294967296 (members_fixed o (members_shape l.members) (slots_val l.slots)) (members_fixed o (members_shape (drop l.at l.members)) (slots_val (drop l.at l.slots))) l.initial.out l.out
 
 abbrev pub invariant-encode_pieces-loop-at : goal.invariant-encode_pieces-loop-at
 invariant-encode_pieces-loop-at g l =
     let o = l.initial.out.order in
-    Going 2097152 (pieces_fixed o (members_shape l.members) (slots_val l.slots)) (pieces_fixed o (members_shape (drop l.at l.members)) (slots_val (drop l.at l.slots))) l.initial.out l.out
+    Going 4294967296 (pieces_fixed o (members_shape l.members) (slots_val l.slots)) (pieces_fixed o (members_shape (drop l.at l.members)) (slots_val (drop l.at l.slots))) l.initial.out l.out
 
 abbrev pub invariant-encode_case-loop-case : goal.invariant-encode_case-loop-case
 invariant-encode_case-loop-case g l =

@@ -1,4 +1,3 @@
-use Rattle.std.proofs.Common.{◌≡◌, ℕ, ap}
 use Rattle.xcdr_model.specs.FixedSpelling.{number_fixed, nothing}
 use Rattle.xcdr_model.specs.Numbers.{raw}
 use Rattle.wire_writer.proofs.Puts.{same_puts, puts_nothing}

@@ -1,4 +1,4 @@
-use Rattle.std.proofs.Common.{◌≡◌, ℕ, ◌+◌, ◌++◌, ◌∷◌, [], List, length, refl}
+use Rattle.std.proofs.Common.{ℕ, ◌+◌, ◌++◌, ◌∷◌, [], length, refl}
 use Rattle.std.proofs.lemmas.Result.{err_from_is_err_and}
 use Rattle.xcdr_model.specs.FixedSpelling.{number_fixed, then_fixed, text_fixed}
 use Rattle.wire_writer.proofs.Puts.{begins, goes_on, last, fails, left_as, within, whole}

@@ -1,17 +1,16 @@
-use Rattle.std.proofs.Common.{rules, ◌≡◌, ◌∙◌, refl, sym, ap, arith, ℕ, ◌+◌, ◌<◌, ◌∷◌, List, map, drop, min, Option, Some, None, true, false, length, Bool, ◌&&◌, inl, inr}
+use Rattle.std.proofs.Common.{rules, ◌≡◌, ◌∙◌, refl, sym, ap, ℕ, ◌+◌, map, drop, Some, None, length, Bool, ◌&&◌, inl, inr}
 use Rattle.std.proofs.Math.Nat.{min_comm}
 use Rattle.std.proofs.lemmas.List.{length-map}
 use Rattle.std.specs.Option.{option_map}
 use Rattle.xt_shapes.specs.declared.leaves.Order.TheVariants.{Little}
-use Rattle.xt_shapes.specs.Shape.{Shape}
-use Rattle.xt_shapes.specs.Vals.{Val, Slot, first, items_in, disc_in, body_in, number_in}
+use Rattle.xt_shapes.specs.Vals.{Val, Slot, first, disc_in, body_in, number_in}
 use Rattle.xt_shapes.specs.Select.{select}
 use Rattle.type_trees.specs.Parts.{structure_parts, union_parts}
 use Rattle.xt_shapes.specs.Sizes.{size, enum_size, mask_size}
 use Rattle.xcdr_model.specs.Numbers.{raw}
-use Rattle.xcdr_model.specs.FixedSpelling.{Fixed, fixed, then_fixed, number_fixed, each_fixed, slot_fixed, piece_fixed, code_of, scalar_size, members_fixed, pieces_fixed, case_fixed, if_present_fixed, scalar_fixed, if_selected_fixed, counted_fixed}
+use Rattle.xcdr_model.specs.FixedSpelling.{Fixed, fixed, then_fixed, number_fixed, slot_fixed, piece_fixed, code_of, scalar_size, members_fixed, pieces_fixed, case_fixed, counted_fixed}
 use Rattle.xcdr_model.specs.Xcdr2Reading.{is_primitive}
-use Rattle.type_trees.specs.Bridge.{type_shape, members_shape, cases_shape, member_head}
+use Rattle.type_trees.specs.Bridge.{type_shape, members_shape, member_head}
 use Rattle.type_trees.specs.View.{val, pair_val, slots_val}
 use Rattle.value_writer.specs.Places.{end_of, number_end, run_end}
 use Rattle.value_writer.specs.Slots.{slot_of}

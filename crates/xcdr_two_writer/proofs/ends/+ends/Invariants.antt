@@ -16,18 +16,18 @@ invariant-end_of_case-loop-case l =
 
 abbrev pub invariant-end_of_each-loop-value : goal.invariant-end_of_each-loop-value
 invariant-end_of_each-loop-value l =
-    (end_of (items_fixed Little (type_shape l.ty) (map val (drop l.value-index l.values))) l.end ≡ end_of (items_fixed Little (type_shape l.ty) (map val l.values)) l.place) × (min 2097152 l.end ≡ l.end)
+    (end_of (items_fixed Little (type_shape l.ty) (map val (drop l.value-index l.values))) l.end ≡ end_of (items_fixed Little (type_shape l.ty) (map val l.values)) l.place) × (min 4294967296 l.end ≡ l.end)
 
 abbrev pub invariant-end_of_entries-loop-entry : goal.invariant-end_of_entries-loop-entry
 invariant-end_of_entries-loop-entry l =
     let key = type_shape l.kind.key.ty in
     let value = type_shape l.kind.value.ty in
-    (end_of (entries_fixed Little key value (map pair_val (drop l.entry-index l.entries))) l.end ≡ end_of (entries_fixed Little key value (map pair_val l.entries)) l.place) × (min 2097152 l.end ≡ l.end)
+    (end_of (entries_fixed Little key value (map pair_val (drop l.entry-index l.entries))) l.end ≡ end_of (entries_fixed Little key value (map pair_val l.entries)) l.place) × (min 4294967296 l.end ≡ l.end)
 
 abbrev pub invariant-end_of_members-loop-at : goal.invariant-end_of_members-loop-at
 invariant-end_of_members-loop-at l =
-    (end_of (members_fixed Little (members_shape (drop l.at l.members)) (slots_val (drop l.at l.slots))) l.end ≡ end_of (members_fixed Little (members_shape l.members) (slots_val l.slots)) l.place) × (min 2097152 l.end ≡ l.end)
+    (end_of (members_fixed Little (members_shape (drop l.at l.members)) (slots_val (drop l.at l.slots))) l.end ≡ end_of (members_fixed Little (members_shape l.members) (slots_val l.slots)) l.place) × (min 4294967296 l.end ≡ l.end)
 
 abbrev pub invariant-end_of_pieces-loop-at : goal.invariant-end_of_pieces-loop-at
 invariant-end_of_pieces-loop-at l =
-    (end_of (pieces_fixed Little (members_shape (drop l.at l.members)) (slots_val (drop l.at l.slots))) l.end ≡ end_of (pieces_fixed Little (members_shape l.members) (slots_val l.slots)) l.place) × (min 2097152 l.end ≡ l.end)
+    (end_of (pieces_fixed Little (members_shape (drop l.at l.members)) (slots_val (drop l.at l.slots))) l.end ≡ end_of (pieces_fixed Little (members_shape l.members) (slots_val l.slots)) l.place) × (min 4294967296 l.end ≡ l.end)

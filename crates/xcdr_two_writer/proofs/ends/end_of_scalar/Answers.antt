@@ -1,4 +1,4 @@
-use Rattle.std.proofs.Common.{◌∙◌, sym, ap, ℕ, rules, arith, min, ◌≡◌}
+use Rattle.std.proofs.Common.{◌∙◌, sym, ap, ℕ, arith}
 use Rattle.value_writer.specs.Places.{number_end}
 use Rattle.xcdr_two_writer.proofs.SizeSteps.{number_end_zero}
 use Rattle.xcdr_two_writer.proofs.ends.end_of_scalar.Goals as goal

@@ -1,4 +1,4 @@
-use Rattle.std.proofs.Common.{rules, ◌∙◌, sym}
+use Rattle.std.proofs.Common.{rules}
 use Rattle.xt_shapes.specs.declared.leaves.Order.TheVariants.{Little}
 use Rattle.xcdr_two_writer.proofs.SizeSteps.{end_of_text}
 use Rattle.xcdr_two_writer.proofs.ends.end_of_text.Goals as goal

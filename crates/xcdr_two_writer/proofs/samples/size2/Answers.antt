@@ -1,4 +1,4 @@
-use Rattle.std.proofs.Common.{refl, arith, ◌≤◌}
+use Rattle.std.proofs.Common.{refl, arith}
 use Rattle.type_trees.specs.Bridge.{type_shape}
 use Rattle.type_trees.specs.View.{val}
 use Rattle.xcdr_two_writer.proofs.SampleSteps.{told, not_told, end_small}

@@ -2,7 +2,7 @@ use Rattle.std.proofs.Common.{ℕ, replicate}
 use Rattle.type_trees.specs.Bridge.{type_shape}
 use Rattle.type_trees.specs.View.{val}
 use Rattle.xcdr_model.specs.FixedSpelling.{fixed}
-use Rattle.xcdr_two_writer.proofs.Joining.{on_err, first_part, second_part}
+use Rattle.xt_outside.proofs.Joined.{on_err, first_part, second_part}
 use Rattle.xcdr_two_writer.proofs.samples.write_padded.Goals as goal
 
 pub returns-in_err-write_body-clause-prefix : goal.returns-in_err-write_body-clause-prefix

@@ -3,7 +3,7 @@ use Rattle.type_trees.specs.Bridge.{type_shape}
 use Rattle.type_trees.specs.View.{val}
 use Rattle.xt_outside.specs.Outside.{AppendsAll, AppendsPrefix}
 use Rattle.xcdr_model.specs.FixedSpelling.{fixed}
-use Rattle.xcdr_two_writer.proofs.Joining.{on_err, first_part, both, second_part}
+use Rattle.xt_outside.proofs.Joined.{on_err, first_part, both, second_part}
 use Rattle.xcdr_two_writer.proofs.SampleSteps.{sample_is}
 use Rattle.xcdr_two_writer.proofs.samples.write_sample2.Goals as goal
 

@@ -1,4 +1,4 @@
-use Rattle.std.proofs.Common.{rules, ap, ◌∙◌, ◌+◌, ◌++◌, ◌≤◌, take, sym, arith, refl, ◌≡◌, length, ℕ, List, length-take}
+use Rattle.std.proofs.Common.{rules, ap, ◌∙◌, ◌++◌, ◌≤◌, take, ◌≡◌, length, ℕ, List}
 use Rattle.value_writer.proofs.Blocks.{number_added}
 use Rattle.value_writer.proofs.block.Block.add.Goals as goal
 

@@ -16,4 +16,4 @@ returns g c =
     same_puts (padding_fixed unit) _ (λ p at.
     let d = distance unit c.self.inside.place c.self.inside.origin p c.requires low (place ∙ at_place now p at ∙ ap (λ (o : ℕ). (o + p) % 2 ^ 64) (sym origin)) in
     let small = pad_small unit p c.requires in
-    sym (rw (c.from-unit.ensures, d) (zeros ((unit - p % unit) % unit) (omega arith)))) c.put.ensures
+    sym (rw (c.padding-pad.ensures.octets, d) (zeros ((unit - p % unit) % unit) (omega arith)))) c.put.ensures

@@ -1,0 +1,3 @@
+pub mod UnitSteps
+pub mod Orders
+pub mod SignSteps
