@@ -1,11 +1,11 @@
-ghost use Rattle.std.specs.Prelude.{◌≡◌, true, None, Ok, Err, IfOk, IfErr};
+ghost use Rattle.std.specs.Prelude.{◌≡◌, true, None, Ok, IfOk};
 ghost use Rattle.xt_shapes.specs.Typing.{has_type};
 ghost use Rattle.type_trees.specs.Bridge.{type_shape};
 ghost use Rattle.type_trees.specs.View.{tree, val};
 ghost use Rattle.type_rules.specs.Valid.{type_fault};
 ghost use Rattle.json_values.specs.Written.{json_text};
 ghost use Rattle.json_values.specs.Read.{read_as};
-ghost use Rattle.json_values.specs.declared.faults.ValueFault.TheVariants.{OutOfMemory as NoMemory};
+ghost use Rattle.json_values.specs.Steps.{FailsAs};
 
 use json_values::{ValueFault, read_json, write_json};
 use std::alloc::Global;
@@ -46,7 +46,7 @@ pub fn from_json(alloc: Global, ty: &XType, text: &[u8]) -> Result<Value, ValueF
     requires { type_fault (tree ty.now) ≡ None }
     ensures ok { IfOk result (λ value. read_as (tree ty.now) text.now ≡ Ok (val value)) }
     ensures typed { IfOk result (λ value. has_type (type_shape ty.now) (val value) ≡ true) }
-    ensures err { IfErr result (λ fault. ¬ (fault ≡ NoMemory) → read_as (tree ty.now) text.now ≡ Err fault) }
+    ensures err { FailsAs (read_as (tree ty.now) text.now) result }
 {
     read_json(alloc, ty, text)
 }

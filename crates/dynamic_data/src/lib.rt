@@ -3,8 +3,6 @@
 
 mod json;
 mod reach;
-#[cfg(test)]
-mod tests;
 
 pub use json::{from_json, to_json};
 pub use json_values::{JsonRule, ValueFault};

@@ -7,3 +7,5 @@ pub mod Order
 pub mod Sorted
 pub mod FineData
 pub mod TextRead
+pub mod IndexSteps
+pub mod Digits

@@ -1,8 +1,9 @@
 -- Slots listed under their members' names, one slot on.
-use Rattle.std.proofs.Common.{◌≡◌, refl, ℕ, zero, suc, ◌+◌, ◌<◌, ◌≤◌, List, [], ◌∷◌, length, get_or, drop, Option, Some, None, String, Global, Ordering, Less, Equal, Greater, string_bytes, string_cmp, slice_get, true, sym, subst, ◌∙◌, arith}
+use Rattle.std.proofs.Common.{◌≡◌, refl, ℕ, zero, suc, ◌+◌, ◌<◌, ◌≤◌, List, [], ◌∷◌, length, get_or, drop, Option, Some, None, Bor, Ordering, Less, Equal, Greater, slice_get, true, sym, subst, ◌∙◌, arith}
 use Rattle.std.proofs.lemmas.List.{drop_all}
 use Rattle.std.proofs.lemmas.Option.{slice_get-get_or}
-use Rattle.std.specs.Ordering.{match_ordering}
+use Rattle.std.specs.Cmp.Lexicographic.{slice_cmp}
+use Rattle.std.specs.Ordering.{match_ordering, nat_cmp}
 use Rattle.std.specs.Str.{is_utf8}
 use Rattle.std.proofs.lemmas.Bool.{and_parts}
 use Rattle.type_trees.specs.declared.values.Value.{Value}
@@ -21,16 +22,19 @@ use Rattle.json_values.specs.Order.{at_data, both_data, slot_data, entries_data,
 use Rattle.json_values.specs.Written.{slots_data}
 
 abbrev Entry : Type 0
-Entry = String Global × ℕ
+Entry = Bor (List ℕ) × ℕ
+
+abbrev text_cmp : Bor (List ℕ) → Bor (List ℕ) → Ordering
+text_cmp s t = slice_cmp nat_cmp s.now t.now
 
 entries_by : (ms : List Member) (ss : List Slot) (o : Ordering) (a b c : List Entry) → entries_data ms ss (match_ordering o a b c) ≡ match_ordering o (entries_data ms ss a) (entries_data ms ss b) (entries_data ms ss c)
 entries_by ms ss Less a b c = refl
 entries_by ms ss Equal a b c = refl
 entries_by ms ss Greater a b c = refl
 
-pub entries_insert : (ms : List Member) (ss : List Slot) (es : List Entry) (k : String Global) (at : ℕ) → entries_data ms ss (insert_entry string_cmp es k at) ≡ put (string_bytes k) (at_data ms ss at) (entries_data ms ss es)
+pub entries_insert : (ms : List Member) (ss : List Slot) (es : List Entry) (k : Bor (List ℕ)) (at : ℕ) → entries_data ms ss (insert_entry text_cmp es k at) ≡ put k.now (at_data ms ss at) (entries_data ms ss es)
 entries_insert ms ss [] k at = refl
-entries_insert ms ss (e ∷ es) k at = entries_by ms ss (string_cmp k e.0) _ _ _ ∙ rw (entries_insert ms ss es k at)
+entries_insert ms ss (e ∷ es) k at = entries_by ms ss (text_cmp k e.0) _ _ _ ∙ rw (entries_insert ms ss es k at)
 
 pub at_present : (ms : List Member) (ss : List Slot) (at : ℕ) (m : Member) (t : Slot) → at < length ms → at < length ss → m ≡ get_or ms at m → t ≡ get_or ss at t → at_data ms ss at ≡ slot_data (tree m.ty) (body_val t)
 at_present ms ss at m t p q is_m is_t = rw (slice_get-get_or ms at m p, slice_get-get_or ss at t q, ← is_m, ← is_t, member_tree_is m) refl

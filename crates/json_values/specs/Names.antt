@@ -1,5 +1,5 @@
 -- Names as they stand in JSON, and the types whose names are texts. The JSON of values is this profile's own.
-use Rattle.std.specs.Prelude.{ℕ, List, [], ◌∷◌, Bool, true, ◌&&◌, bytes_eq, map}
+use Rattle.std.specs.Prelude.{ℕ, List, [], ◌∷◌, Bool, true, ◌&&◌, bytes_eq, map, replicate}
 use Rattle.std.specs.Int.{w32, to_le_bytes}
 use Rattle.std.specs.Str.{is_utf8}
 use Rattle.hex.specs.Hex.{encode_lower}
@@ -13,6 +13,11 @@ use Rattle.type_trees.specs.Trees.{Tree, prim, str, enumeration, bitmask, sequen
 abbrev pub name_text : Name → List ℕ
 name_text (Full t) = t
 name_text (Hashed h) = 35 ∷ encode_lower (to_le_bytes w32 h)
+
+-- the text of a hashed name, and zeros in place of a full one
+abbrev pub digits_of : Name → List ℕ
+digits_of (Full t) = replicate 9 0
+digits_of (Hashed h) = name_text (Hashed h)
 
 abbrev pub is_among : List ℕ → List (List ℕ) → Bool
 is_among name names = has (λ n. bytes_eq n name) names

@@ -1,6 +1,6 @@
 -- The members of a structure's JSON, by positions that are listed under their names.
-use Rattle.std.specs.Prelude.{ℕ, List, [], ◌∷◌, Option, Some, String, string_bytes, slice_get}
-use Rattle.std.specs.declared.alloc.Global.{Global}
+use Rattle.std.specs.Prelude.{ℕ, List, [], ◌∷◌, Option, Some, slice_get}
+use Rattle.std.specs.Borrow.{Bor}
 use Rattle.serde_json.specs.Data as json
 use Rattle.serde_json.specs.Data.{Data}
 use Rattle.type_trees.specs.declared.types.Member.{Member}
@@ -22,9 +22,9 @@ both_data _ _ = json.null
 abbrev pub at_data : List Member → List Slot → ℕ → Data
 at_data ms ss at = both_data (slice_get ms at) (slice_get ss at)
 
-abbrev pub entries_data : List Member → List Slot → List (String Global × ℕ) → json.Members
+abbrev pub entries_data : List Member → List Slot → List (Bor (List ℕ) × ℕ) → json.Members
 entries_data ms ss [] = json.no_members
-entries_data ms ss (e ∷ es) = json.member (string_bytes e.0) (at_data ms ss e.1) (entries_data ms ss es)
+entries_data ms ss (e ∷ es) = json.member e.0.now (at_data ms ss e.1) (entries_data ms ss es)
 
 -- a slot that is present goes under its member's name
 abbrev pub put_both : Option Member → Option Slot → json.Members → json.Members

@@ -1,5 +1,5 @@
 -- Where a reading ends: with a value, or with a rule and the steps to its place.
-use Rattle.std.specs.Prelude.{ℕ, [], ◌∷◌, length, Result, Ok, Err}
+use Rattle.std.specs.Prelude.{◌≡◌, ℕ, [], ◌∷◌, length, Result, Ok, Err, IfErr}
 use Rattle.xt_shapes.specs.declared.leaves.Step.{Step}
 use Rattle.json_values.specs.declared.faults.JsonRule.{JsonRule}
 use Rattle.json_values.specs.declared.faults.ValueFault.{ValueFault}
@@ -33,3 +33,7 @@ abbrev pub steps_of : ValueFault → ℕ
 steps_of NotJson = 0
 steps_of (Wrong path rule) = length path
 steps_of OutOfMemory = 0
+
+-- the fault of a call that reads is the reading's, unless memory is wanting
+abbrev pub FailsAs : {A B : Type 0} → Reading A → Result B ValueFault → Type 0
+FailsAs reading result = IfErr result (λ e. ¬ (e ≡ OutOfMemory) → reading ≡ Err e)

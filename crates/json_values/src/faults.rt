@@ -1,7 +1,10 @@
-ghost use Rattle.std.specs.Prelude.{◌≡◌, ◌<◌};
+ghost use Rattle.std.specs.Prelude.{◌≡◌, ◌<◌, Some};
+ghost use Rattle.json_values.specs.Words.{rule_text};
 ghost use Rattle.json_values.specs.Steps.{fault_beneath, steps_of};
 ghost use Rattle.json_values.specs.declared.faults.ValueFault.TheVariants.{OutOfMemory as NoMemory};
 
+use std::fmt;
+use thiserror::Error;
 use type_trees::Path;
 use xt_lists::OutOfMemory;
 use xt_shapes::Step;
@@ -31,17 +34,49 @@ pub enum JsonRule {
     Case,
 }
 
+impl JsonRule {
+    /// The word that is printed for it.
+    pub fn word(self) -> &'static str
+        ensures { result.now ≡ rule_text self }
+    {
+        match self {
+            JsonRule::Kind => "KIND",
+            JsonRule::Unknown => "UNKNOWN",
+            JsonRule::Missing => "MISSING",
+            JsonRule::Range => "RANGE",
+            JsonRule::Literal => "LITERAL",
+            JsonRule::Text => "TEXT",
+            JsonRule::Bound => "BOUND",
+            JsonRule::Count => "COUNT",
+            JsonRule::Twice => "TWICE",
+            JsonRule::Case => "CASE",
+        }
+    }
+}
+
+impl fmt::Display for JsonRule {
+    ghost output = { λ rule. Some (rule_text rule) };
+
+    fn fmt<W: fmt::Write>(&self, f: &mut fmt::Formatter<W>) -> fmt::Result {
+        f.write_str(self.word())
+    }
+}
+
 /// Why a text gives no value.
-#[derive(Debug, Drop)]
+#[derive(Debug, Drop, Error)]
 pub enum ValueFault {
     /// `serde_json` has no reading of the text.
+    #[error("not JSON")]
     NotJson,
     /// The first place that breaks a rule, in declared order, and the first rule that it breaks.
+    #[error("{rule} {path}")]
     Wrong { path: Path, rule: JsonRule },
+    #[error("out of memory")]
     OutOfMemory,
 }
 
 /// The fault, seen from above `step`.
+#[inline(always)]
 pub(crate) fn below(step: Step, fault: ValueFault) -> ValueFault
     requires { steps_of fault < 16 }
     ensures { result ≡ fault_beneath step fault }

@@ -3,24 +3,24 @@ ghost use Rattle.serde_json.specs.View.{view};
 ghost use Rattle.type_trees.specs.View.{val};
 ghost use Rattle.xt_shapes.specs.Vals.{text};
 ghost use Rattle.json_values.specs.declared.faults.ValueFault.TheVariants.{OutOfMemory};
-ghost use Rattle.json_values.specs.Steps.{here, steps_of};
+ghost use Rattle.json_values.specs.Steps.{FailsAs, here, steps_of};
 ghost use Rattle.json_values.specs.Read as spec;
 ghost use Rattle.xt_shapes.specs.Typing.{of_prim, is_below};
-ghost use Rattle.type_trees.specs.declared.types.Name.TheVariants.{Hashed};
-ghost use Rattle.json_values.specs.Names.{name_text};
 ghost use Rattle.std.specs.Prelude.{bytes_eq, Some, option_map};
 ghost use Rattle.std.specs.Int.{w32, w64};
 
 use crate::faults::{JsonRule, ValueFault};
+use crate::names::is_named;
 use hex::{FromHex, FromHexError};
 use serde_json::Value as Data;
 use std::alloc::Global;
-use type_trees::{Literal, Name, Path, Value};
+use type_trees::{Literal, Path, Value};
 use type_values::{fits_bits, is_of_prim, is_past, is_text_within};
 use xt_lists::Text;
 use xt_shapes::Prim;
 
 /// A fault at the place that is read.
+#[inline(always)]
 pub(crate) fn wrong(rule: JsonRule) -> ValueFault
     ensures { Err result ≡ here {A = Value} rule }
 {
@@ -31,6 +31,7 @@ pub(crate) fn wrong(rule: JsonRule) -> ValueFault
 }
 
 #[tactic(auto, using(crate::proofs::DataViews::data_rules, type_trees::proofs::Views::val_rules))]
+#[inline(always)]
 fn read_boolean(part: &Data) -> Result<Value, ValueFault>
     ensures ok { IfOk result (λ v. spec.boolean_of (view part.now) ≡ Ok (val v)) }
     ensures err { IfErr result (λ e. spec.boolean_of (view part.now) ≡ Err e) }
@@ -45,6 +46,7 @@ fn read_boolean(part: &Data) -> Result<Value, ValueFault>
 }
 
 #[tactic(auto, using(crate::proofs::DataViews::data_rules, type_trees::proofs::Views::val_rules))]
+#[inline(always)]
 fn read_whole(prim: Prim, part: &Data) -> Result<Value, ValueFault>
     ensures ok { IfOk result (λ v. spec.whole_of (of_prim prim) (view part.now) ≡ Ok (val v)) }
     ensures err { IfErr result (λ e. spec.whole_of (of_prim prim) (view part.now) ≡ Err e) }
@@ -66,6 +68,7 @@ fn read_whole(prim: Prim, part: &Data) -> Result<Value, ValueFault>
 }
 
 #[tactic(auto, using(crate::proofs::DataViews::data_rules, type_trees::proofs::Views::val_rules))]
+#[inline(always)]
 pub(crate) fn read_mask(bits: u8, part: &Data) -> Result<Value, ValueFault>
     ensures ok { IfOk result (λ v. spec.whole_of (is_below (2 ^ bits)) (view part.now) ≡ Ok (val v)) }
     ensures err { IfErr result (λ e. spec.whole_of (is_below (2 ^ bits)) (view part.now) ≡ Err e) }
@@ -87,6 +90,7 @@ pub(crate) fn read_mask(bits: u8, part: &Data) -> Result<Value, ValueFault>
 }
 
 #[tactic(auto, using(crate::proofs::DataViews::data_rules, type_trees::proofs::Views::val_rules))]
+#[inline(always)]
 fn read_single(part: &Data) -> Result<Value, ValueFault>
     ensures ok { IfOk result (λ v. spec.bits_of w32 4 (view part.now) ≡ Ok (val v)) }
     ensures err { IfErr result (λ e. spec.bits_of w32 4 (view part.now) ≡ Err e) }
@@ -104,6 +108,7 @@ fn read_single(part: &Data) -> Result<Value, ValueFault>
 }
 
 #[tactic(auto, using(crate::proofs::DataViews::data_rules, type_trees::proofs::Views::val_rules))]
+#[inline(always)]
 fn read_double(part: &Data) -> Result<Value, ValueFault>
     ensures ok { IfOk result (λ v. spec.bits_of w64 8 (view part.now) ≡ Ok (val v)) }
     ensures err { IfErr result (λ e. spec.bits_of w64 8 (view part.now) ≡ Err e) }
@@ -120,6 +125,7 @@ fn read_double(part: &Data) -> Result<Value, ValueFault>
     }
 }
 
+#[inline(always)]
 pub(crate) fn read_prim(prim: Prim, part: &Data) -> Result<Value, ValueFault>
     ensures ok { IfOk result (λ v. spec.prim_of prim (view part.now) ≡ Ok (val v)) }
     ensures err { IfErr result (λ e. spec.prim_of prim (view part.now) ≡ Err e) }
@@ -139,30 +145,6 @@ pub(crate) fn read_prim(prim: Prim, part: &Data) -> Result<Value, ValueFault>
         | Prim::Int64
         | Prim::Uint64
         | Prim::Char8 => read_whole(prim, part),
-    }
-}
-
-/// `#` and a hash's octets in hexadecimal.
-pub(crate) fn hashed_text(hash: u32) -> [u8; 9]
-    ensures { result ≡ name_text (Hashed hash) }
-{
-    let mut digits = [0u8; 8];
-    match hex::encode_to_slice(hash.to_le_bytes(), &mut digits) {
-        Ok(()) => {}
-        Err(_) => {}
-    }
-    let [a, b, c, d, e, f, g, h] = digits;
-    [b'#', a, b, c, d, e, f, g, h]
-}
-
-/// Whether a name stands in JSON, and in paths of names, as that text: a hashed name as `#` and its four octets in lower-case
-/// hexadecimal, the lowest first.
-pub fn is_named(name: &Name, text: &[u8]) -> bool
-    ensures { result ≡ bytes_eq (name_text name.now) text.now }
-{
-    match name {
-        Name::Full(full) => full.octets() == text,
-        Name::Hashed(hash) => hashed_text(*hash).as_slice() == text,
     }
 }
 
@@ -195,6 +177,7 @@ pub(crate) fn read_literal(literals: &[Literal], part: &Data) -> Result<Value, V
 }
 
 /// The first rule that octets break as a string of this bound.
+#[inline(always)]
 pub(crate) fn octets_fault(bound: u32, octets: &[u8]) -> Option<JsonRule>
     ensures { spec.octets_of bound octets.now ≡ spec.unless_fault result (text octets.now) }
 {
@@ -221,7 +204,7 @@ fn read_octets(bound: u32, octets: Vec<u8>) -> Result<Value, ValueFault>
 
 pub(crate) fn read_hex(alloc: Global, bound: u32, part: Option<&Data>) -> Result<Value, ValueFault>
     ensures ok { IfOk result (λ v. spec.hex_of bound (option_map (λ d. view d.now) part.entry) ≡ Ok (val v)) }
-    ensures err { IfErr result (λ e. ¬ (e ≡ OutOfMemory) → spec.hex_of bound (option_map (λ d. view d.now) part.entry) ≡ Err e) }
+    ensures err { FailsAs (spec.hex_of bound (option_map (λ d. view d.now) part.entry)) result }
     ensures short { IfErr result (λ e. steps_of e ≡ 0) }
 {
     match part {
@@ -233,7 +216,7 @@ pub(crate) fn read_hex(alloc: Global, bound: u32, part: Option<&Data>) -> Result
 #[tactic(auto, using(crate::proofs::DataViews::data_rules))]
 fn read_digits(alloc: Global, bound: u32, part: &Data) -> Result<Value, ValueFault>
     ensures ok { IfOk result (λ v. spec.hex_of bound (Some (view part.now)) ≡ Ok (val v)) }
-    ensures err { IfErr result (λ e. ¬ (e ≡ OutOfMemory) → spec.hex_of bound (Some (view part.now)) ≡ Err e) }
+    ensures err { FailsAs (spec.hex_of bound (Some (view part.now))) result }
     ensures short { IfErr result (λ e. steps_of e ≡ 0) }
 {
     match part {

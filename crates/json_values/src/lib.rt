@@ -3,12 +3,16 @@
 #![tactic(auto)]
 
 mod faults;
+mod indices;
 mod leaves;
+mod names;
 mod objects;
 mod read;
+mod read_lists;
 mod write;
+mod write_lists;
 
 pub use faults::{JsonRule, ValueFault};
-pub use leaves::is_named;
+pub use names::is_named;
 pub use read::read_json;
 pub use write::write_json;

@@ -1,4 +1,4 @@
-ghost use Rattle.std.specs.Prelude.{◌≡◌, ◌∷◌, [], true, option_map};
+ghost use Rattle.std.specs.Prelude.{◌≡◌, ◌∷◌, [], true, option_map, IfOk};
 ghost use Rattle.std.specs.Str.{is_utf8};
 ghost use Rattle.serde_json.specs.View.{view, members_view};
 ghost use Rattle.serde_json.specs.Find.{get_member};
@@ -7,9 +7,12 @@ ghost use Rattle.json_values.specs.Names.{name_text, is_among, member_names, mem
 ghost use Rattle.json_values.specs.Read.{has_other, has_missing};
 ghost use Rattle.json_values.specs.Written.{hex_key, disc_key, value_key};
 
-use crate::leaves::{hashed_text, is_named};
+use crate::indices::{FEW, names_of};
+use crate::names::{hashed_text, is_named};
 use serde_json::{Map, Value as Data};
+use std::alloc::Global;
 use type_trees::{Member, Name};
+use xt_lists::OutOfMemory;
 
 #[tactic(auto, using(type_trees::proofs::Views::tree_rules))]
 fn is_member(members: &[Member], key: &[u8]) -> bool
@@ -23,8 +26,7 @@ fn is_member(members: &[Member], key: &[u8]) -> bool
     false
 }
 
-/// Whether some key is no member.
-pub(crate) fn has_other_member(members: &[Member], found: &Map<String, Data>) -> bool
+fn has_other_of_few(members: &[Member], found: &Map<String, Data>) -> bool
     ensures { result ≡ has_other (member_names (members_tree members.now)) (members_view found.now.entries) }
 {
     for (key, _data) in found.iter() {
@@ -33,6 +35,39 @@ pub(crate) fn has_other_member(members: &[Member], found: &Map<String, Data>) ->
         }
     }
     false
+}
+
+/// Whether some key is no member, by a set of the members' names.
+fn has_other_of_many(
+    alloc: Global,
+    members: &[Member],
+    found: &Map<String, Data>,
+) -> Result<bool, OutOfMemory>
+    requires { members_have_text_names (members_tree members.now) ≡ true }
+    ensures { IfOk result (λ other. other ≡ has_other (member_names (members_tree members.now)) (members_view found.now.entries)) }
+{
+    let names = names_of(alloc, members)?;
+    for (key, _data) in found.iter() {
+        if !names.contains(key.as_str()) {
+            return Ok(true);
+        }
+    }
+    Ok(false)
+}
+
+/// Whether some key is no member.
+pub(crate) fn has_other_member(
+    alloc: Global,
+    members: &[Member],
+    found: &Map<String, Data>,
+) -> Result<bool, OutOfMemory>
+    requires { members_have_text_names (members_tree members.now) ≡ true }
+    ensures { IfOk result (λ other. other ≡ has_other (member_names (members_tree members.now)) (members_view found.now.entries)) }
+{
+    if members.len() <= FEW {
+        return Ok(has_other_of_few(members, found));
+    }
+    has_other_of_many(alloc, members, found)
 }
 
 /// Whether some key isn't `hex`.
@@ -60,12 +95,14 @@ pub(crate) fn has_other_than_union(found: &Map<String, Data>) -> bool
 }
 
 /// What stands at a key.
+#[inline(always)]
 pub(crate) fn part_at<'v>(found: &'v Map<String, Data>, key: &str) -> Option<&'v Data>
     ensures { option_map (λ d. view d.now) result ≡ get_member key.now (members_view found.now.entries) }
 {
     found.get(key)
 }
 
+#[inline(always)]
 fn part_at_octets<'v>(found: &'v Map<String, Data>, key: &[u8]) -> Option<&'v Data>
     requires { is_utf8 key.now ≡ true }
     ensures { option_map (λ d. view d.now) result ≡ get_member key.now (members_view found.now.entries) }
@@ -77,6 +114,7 @@ fn part_at_octets<'v>(found: &'v Map<String, Data>, key: &[u8]) -> Option<&'v Da
 }
 
 /// What stands at a member's name.
+#[inline(always)]
 pub(crate) fn part_of<'v>(found: &'v Map<String, Data>, name: &Name) -> Option<&'v Data>
     requires { is_utf8 (name_text name.now) ≡ true }
     ensures { option_map (λ d. view d.now) result ≡ get_member (name_text name.now) (members_view found.now.entries) }

@@ -8,7 +8,7 @@ ghost use Rattle.type_trees.specs.View.{tree, val, pair_val, body_val, members_t
 ghost use Rattle.json_values.specs.declared.faults.ValueFault.TheVariants.{OutOfMemory};
 ghost use Rattle.json_values.specs.Names.{has_text_names, members_have_text_names, cases_have_text_names};
 ghost use Rattle.json_values.specs.Read as spec;
-ghost use Rattle.json_values.specs.Steps.{beneath, steps_of};
+ghost use Rattle.json_values.specs.Steps.{FailsAs, beneath, steps_of};
 ghost use Rattle.serde_json.specs.Data.{object, array};
 ghost use Rattle.serde_json.specs.Find.{get_member};
 ghost use Rattle.std.specs.Str.{is_utf8};
@@ -18,11 +18,13 @@ ghost use Rattle.xt_shapes.specs.Vals.{union_of};
 ghost use Rattle.xt_shapes.specs.declared.leaves.Step.{Step};
 
 use crate::faults::{JsonRule, ValueFault, below};
+use crate::indices::FEW;
 use crate::leaves::{octets_fault, read_hex, read_literal, read_mask, read_prim, wrong};
 use crate::objects::{
     has_missing_member, has_other_member, has_other_than_hex, has_other_than_union, part_at,
     part_of,
 };
+use crate::read_lists::{read_literals, read_numbers};
 use serde_json::{Map, Value as Data};
 use std::alloc::Global;
 use type_sizes::elements_of;
@@ -30,14 +32,15 @@ use type_trees::{
     ArrayType, Case, MapType, Member, Pair, SeqType, Slot, StructType, UnionType, UnionValue,
     Value, XType, select,
 };
-use type_values::{is_past, repeats};
+use type_values::{has_same_keys, is_past};
 use xt_lists::{Row, Text};
 use xt_shapes::Step;
 
 #[tactic(auto, using(type_trees::proofs::Views::val_rules))]
+#[inline(always)]
 fn read_plain(alloc: Global, bound: u32, text: &str) -> Result<Value, ValueFault>
     ensures ok { IfOk result (λ v. spec.octets_of bound text.now ≡ Ok (val v)) }
-    ensures err { IfErr result (λ e. ¬ (e ≡ OutOfMemory) → spec.octets_of bound text.now ≡ Err e) }
+    ensures err { FailsAs (spec.octets_of bound text.now) result }
     ensures short { IfErr result (λ e. steps_of e ≡ 0) }
 {
     match octets_fault(bound, text.as_bytes()) {
@@ -55,7 +58,7 @@ fn read_hex_object(
     found: &Map<String, Data>,
 ) -> Result<Value, ValueFault>
     ensures ok { IfOk result (λ v. spec.text_of bound (object (members_view found.now.entries)) ≡ Ok (val v)) }
-    ensures err { IfErr result (λ e. ¬ (e ≡ OutOfMemory) → spec.text_of bound (object (members_view found.now.entries)) ≡ Err e) }
+    ensures err { FailsAs (spec.text_of bound (object (members_view found.now.entries))) result }
     ensures short { IfErr result (λ e. steps_of e ≡ 0) }
 {
     if has_other_than_hex(found) {
@@ -65,9 +68,10 @@ fn read_hex_object(
 }
 
 #[tactic(auto, using(crate::proofs::DataViews::data_rules))]
+#[inline(always)]
 fn read_text(alloc: Global, bound: u32, part: &Data) -> Result<Value, ValueFault>
     ensures ok { IfOk result (λ v. spec.text_of bound (view part.now) ≡ Ok (val v)) }
-    ensures err { IfErr result (λ e. ¬ (e ≡ OutOfMemory) → spec.text_of bound (view part.now) ≡ Err e) }
+    ensures err { FailsAs (spec.text_of bound (view part.now)) result }
     ensures short { IfErr result (λ e. steps_of e ≡ 0) }
 {
     match part {
@@ -78,11 +82,12 @@ fn read_text(alloc: Global, bound: u32, part: &Data) -> Result<Value, ValueFault
 }
 
 #[cycle(read_value)]
+#[inline(always)]
 fn read_below(alloc: Global, step: Step, ty: &XType, part: &Data) -> Result<Value, ValueFault>
     requires deep { depth (tree ty.now) ≤ 15 }
     requires named { has_text_names (tree ty.now) ≡ true }
     ensures ok { IfOk result (λ v. beneath step (spec.value_of (tree ty.now) (view part.now)) ≡ Ok (val v)) }
-    ensures err { IfErr result (λ e. ¬ (e ≡ OutOfMemory) → beneath step (spec.value_of (tree ty.now) (view part.now)) ≡ Err e) }
+    ensures err { FailsAs (beneath step (spec.value_of (tree ty.now) (view part.now))) result }
     ensures short { IfErr result (λ e. steps_of e ≤ depth (tree ty.now)) }
 {
     match read_value(alloc, ty, part) {
@@ -92,14 +97,15 @@ fn read_below(alloc: Global, step: Step, ty: &XType, part: &Data) -> Result<Valu
 }
 
 #[cycle(read_value)]
-fn read_items(alloc: Global, ty: &XType, items: &[Data]) -> Result<Row<Value>, ValueFault>
+fn read_each(alloc: Global, ty: &XType, items: &[Data]) -> Result<Row<Value>, ValueFault>
     requires deep { depth (tree ty.now) ≤ 15 }
     requires named { has_text_names (tree ty.now) ≡ true }
     ensures ok { IfOk result (λ vs. spec.items_of (spec.value_of (tree ty.now)) (items_view items.now) ≡ Ok (map val vs)) }
-    ensures err { IfErr result (λ e. ¬ (e ≡ OutOfMemory) → spec.items_of (spec.value_of (tree ty.now)) (items_view items.now) ≡ Err e) }
+    ensures err { FailsAs (spec.items_of (spec.value_of (tree ty.now)) (items_view items.now)) result }
     ensures short { IfErr result (λ e. steps_of e ≤ depth (tree ty.now)) }
 {
     let mut values = Row::new(alloc);
+    values.reserve(items.len())?;
     for item in items {
         let value = read_below(alloc, Step::Element, ty, item)?;
         values.push(value)?;
@@ -107,13 +113,33 @@ fn read_items(alloc: Global, ty: &XType, items: &[Data]) -> Result<Row<Value>, V
     Ok(values)
 }
 
+/// The values of a list. Numbers are read without a look at the type for each, and many literals by an index.
+#[cycle(read_value)]
+#[tactic(auto, using(type_trees::proofs::Views::tree_rules))]
+fn read_items(alloc: Global, ty: &XType, items: &[Data]) -> Result<Row<Value>, ValueFault>
+    requires deep { depth (tree ty.now) ≤ 15 }
+    requires named { has_text_names (tree ty.now) ≡ true }
+    ensures ok { IfOk result (λ vs. spec.items_of (spec.value_of (tree ty.now)) (items_view items.now) ≡ Ok (map val vs)) }
+    ensures err { FailsAs (spec.items_of (spec.value_of (tree ty.now)) (items_view items.now)) result }
+    ensures short { IfErr result (λ e. steps_of e ≤ depth (tree ty.now)) }
+{
+    match ty {
+        XType::Prim(prim) => read_numbers(alloc, *prim, items),
+        XType::Enum(kind) if kind.literals.len() > FEW && items.len() > FEW => {
+            read_literals(alloc, kind.literals.as_slice(), items)
+        }
+        _ => read_each(alloc, ty, items),
+    }
+}
+
 #[cycle(read_value)]
 #[tactic(auto, using(crate::proofs::DataViews::data_rules, type_trees::proofs::Views::val_rules, type_trees::proofs::Views::tree_rules, crate::proofs::DataViews::items_len_is))]
+#[inline(always)]
 fn read_sequence(alloc: Global, kind: &SeqType, part: &Data) -> Result<Value, ValueFault>
     requires deep { depth (sequence_tree kind.now) ≤ 16 }
     requires named { has_text_names (sequence_tree kind.now) ≡ true }
     ensures ok { IfOk result (λ v. spec.value_of (sequence_tree kind.now) (view part.now) ≡ Ok (val v)) }
-    ensures err { IfErr result (λ e. ¬ (e ≡ OutOfMemory) → spec.value_of (sequence_tree kind.now) (view part.now) ≡ Err e) }
+    ensures err { FailsAs (spec.value_of (sequence_tree kind.now) (view part.now)) result }
     ensures short { IfErr result (λ e. steps_of e < depth (sequence_tree kind.now)) }
 {
     match part {
@@ -131,11 +157,12 @@ fn read_sequence(alloc: Global, kind: &SeqType, part: &Data) -> Result<Value, Va
 
 #[cycle(read_value)]
 #[tactic(auto, using(crate::proofs::DataViews::data_rules, type_trees::proofs::Views::val_rules, type_trees::proofs::Views::tree_rules, crate::proofs::DataViews::items_len_is))]
+#[inline(always)]
 fn read_array(alloc: Global, kind: &ArrayType, part: &Data) -> Result<Value, ValueFault>
     requires deep { depth (array_tree kind.now) ≤ 16 }
     requires named { has_text_names (array_tree kind.now) ≡ true }
     ensures ok { IfOk result (λ v. spec.value_of (array_tree kind.now) (view part.now) ≡ Ok (val v)) }
-    ensures err { IfErr result (λ e. ¬ (e ≡ OutOfMemory) → spec.value_of (array_tree kind.now) (view part.now) ≡ Err e) }
+    ensures err { FailsAs (spec.value_of (array_tree kind.now) (view part.now)) result }
     ensures short { IfErr result (λ e. steps_of e < depth (array_tree kind.now)) }
 {
     match part {
@@ -153,12 +180,13 @@ fn read_array(alloc: Global, kind: &ArrayType, part: &Data) -> Result<Value, Val
 
 #[cycle(read_value)]
 #[tactic(auto, using(type_trees::proofs::Views::val_rules, type_trees::proofs::Views::tree_rules))]
+#[inline(always)]
 fn read_both(alloc: Global, kind: &MapType, items: &[Data]) -> Result<Pair, ValueFault>
     requires deep { depth (map_tree kind.now) ≤ 16 }
     requires named { has_text_names (map_tree kind.now) ≡ true }
     requires two { length items.now ≡ 2 }
     ensures ok { IfOk result (λ p. spec.pair_of (spec.value_of (tree kind.now.key.ty)) (spec.value_of (tree kind.now.value.ty)) (array (items_view items.now)) ≡ Ok (pair_val p)) }
-    ensures err { IfErr result (λ e. ¬ (e ≡ OutOfMemory) → spec.pair_of (spec.value_of (tree kind.now.key.ty)) (spec.value_of (tree kind.now.value.ty)) (array (items_view items.now)) ≡ Err e) }
+    ensures err { FailsAs (spec.pair_of (spec.value_of (tree kind.now.key.ty)) (spec.value_of (tree kind.now.value.ty)) (array (items_view items.now))) result }
     ensures short { IfErr result (λ e. steps_of e < depth (map_tree kind.now)) }
 {
     let key = read_below(alloc, Step::Key, &kind.key.ty, &items[0])?;
@@ -168,11 +196,12 @@ fn read_both(alloc: Global, kind: &MapType, items: &[Data]) -> Result<Pair, Valu
 
 #[cycle(read_value)]
 #[tactic(auto, using(crate::proofs::DataViews::data_rules, crate::proofs::Pairs::not_two))]
+#[inline(always)]
 fn read_pair(alloc: Global, kind: &MapType, part: &Data) -> Result<Pair, ValueFault>
     requires deep { depth (map_tree kind.now) ≤ 16 }
     requires named { has_text_names (map_tree kind.now) ≡ true }
     ensures ok { IfOk result (λ p. spec.pair_of (spec.value_of (tree kind.now.key.ty)) (spec.value_of (tree kind.now.value.ty)) (view part.now) ≡ Ok (pair_val p)) }
-    ensures err { IfErr result (λ e. ¬ (e ≡ OutOfMemory) → spec.pair_of (spec.value_of (tree kind.now.key.ty)) (spec.value_of (tree kind.now.value.ty)) (view part.now) ≡ Err e) }
+    ensures err { FailsAs (spec.pair_of (spec.value_of (tree kind.now.key.ty)) (spec.value_of (tree kind.now.value.ty)) (view part.now)) result }
     ensures short { IfErr result (λ e. steps_of e < depth (map_tree kind.now)) }
 {
     match part {
@@ -193,7 +222,7 @@ fn read_pairs(alloc: Global, kind: &MapType, items: &[Data]) -> Result<Row<Pair>
     requires deep { depth (map_tree kind.now) ≤ 16 }
     requires named { has_text_names (map_tree kind.now) ≡ true }
     ensures ok { IfOk result (λ ps. spec.entries_of (spec.value_of (tree kind.now.key.ty)) (spec.value_of (tree kind.now.value.ty)) (items_view items.now) ≡ Ok (map pair_val ps)) }
-    ensures err { IfErr result (λ e. ¬ (e ≡ OutOfMemory) → spec.entries_of (spec.value_of (tree kind.now.key.ty)) (spec.value_of (tree kind.now.value.ty)) (items_view items.now) ≡ Err e) }
+    ensures err { FailsAs (spec.entries_of (spec.value_of (tree kind.now.key.ty)) (spec.value_of (tree kind.now.value.ty)) (items_view items.now)) result }
     ensures short { IfErr result (λ e. steps_of e < depth (map_tree kind.now)) }
 {
     let mut pairs = Row::new(alloc);
@@ -210,7 +239,7 @@ fn read_map(alloc: Global, kind: &MapType, part: &Data) -> Result<Value, ValueFa
     requires deep { depth (map_tree kind.now) ≤ 16 }
     requires named { has_text_names (map_tree kind.now) ≡ true }
     ensures ok { IfOk result (λ v. spec.value_of (map_tree kind.now) (view part.now) ≡ Ok (val v)) }
-    ensures err { IfErr result (λ e. ¬ (e ≡ OutOfMemory) → spec.value_of (map_tree kind.now) (view part.now) ≡ Err e) }
+    ensures err { FailsAs (spec.value_of (map_tree kind.now) (view part.now)) result }
     ensures short { IfErr result (λ e. steps_of e < depth (map_tree kind.now)) }
 {
     match part {
@@ -219,7 +248,7 @@ fn read_map(alloc: Global, kind: &MapType, part: &Data) -> Result<Value, ValueFa
                 return Err(wrong(JsonRule::Bound));
             }
             let pairs = read_pairs(alloc, kind, items.as_slice())?;
-            if repeats(pairs.as_slice()) {
+            if has_same_keys(alloc, pairs.as_slice())? {
                 return Err(wrong(JsonRule::Twice));
             }
             Ok(Value::Map(pairs))
@@ -232,12 +261,13 @@ fn read_map(alloc: Global, kind: &MapType, part: &Data) -> Result<Value, ValueFa
 
 #[cycle(read_value)]
 #[tactic(auto, using(type_trees::proofs::Views::val_rules))]
+#[inline(always)]
 fn read_slot(alloc: Global, member: &Member, found: &Map<String, Data>) -> Result<Slot, ValueFault>
     requires deep { depth (tree member.now.ty) ≤ 15 }
     requires member_named { is_utf8 (name_text member.now.name) ≡ true }
     requires named { has_text_names (tree member.now.ty) ≡ true }
     ensures ok { IfOk result (λ s. spec.slot_of member.now.id (spec.value_of (tree member.now.ty)) (get_member (name_text member.now.name) (members_view found.now.entries)) ≡ Ok (body_val s)) }
-    ensures err { IfErr result (λ e. ¬ (e ≡ OutOfMemory) → spec.slot_of member.now.id (spec.value_of (tree member.now.ty)) (get_member (name_text member.now.name) (members_view found.now.entries)) ≡ Err e) }
+    ensures err { FailsAs (spec.slot_of member.now.id (spec.value_of (tree member.now.ty)) (get_member (name_text member.now.name) (members_view found.now.entries))) result }
     ensures short { IfErr result (λ e. steps_of e ≤ depth (tree member.now.ty)) }
 {
     match part_of(found, &member.name) {
@@ -260,10 +290,11 @@ fn read_slots(
     requires deep { members_depth (members_tree members.now) ≤ 15 }
     requires named { members_have_text_names (members_tree members.now) ≡ true }
     ensures ok { IfOk result (λ ss. spec.slots_in (members_tree members.now) (members_view found.now.entries) ≡ Ok (map body_val ss)) }
-    ensures err { IfErr result (λ e. ¬ (e ≡ OutOfMemory) → spec.slots_in (members_tree members.now) (members_view found.now.entries) ≡ Err e) }
+    ensures err { FailsAs (spec.slots_in (members_tree members.now) (members_view found.now.entries)) result }
     ensures short { IfErr result (λ e. steps_of e ≤ members_depth (members_tree members.now)) }
 {
     let mut slots = Row::new(alloc);
+    slots.reserve(members.len())?;
     for member in members {
         let slot = read_slot(alloc, member, found)?;
         slots.push(slot)?;
@@ -273,16 +304,17 @@ fn read_slots(
 
 #[cycle(read_value)]
 #[tactic(auto, using(crate::proofs::DataViews::data_rules, type_trees::proofs::Views::val_rules, type_trees::proofs::Views::tree_rules, crate::proofs::DataViews::items_len_is))]
+#[inline(always)]
 fn read_struct(alloc: Global, kind: &StructType, part: &Data) -> Result<Value, ValueFault>
     requires deep { depth (struct_tree kind.now) ≤ 16 }
     requires named { has_text_names (struct_tree kind.now) ≡ true }
     ensures ok { IfOk result (λ v. spec.value_of (struct_tree kind.now) (view part.now) ≡ Ok (val v)) }
-    ensures err { IfErr result (λ e. ¬ (e ≡ OutOfMemory) → spec.value_of (struct_tree kind.now) (view part.now) ≡ Err e) }
+    ensures err { FailsAs (spec.value_of (struct_tree kind.now) (view part.now)) result }
     ensures short { IfErr result (λ e. steps_of e < depth (struct_tree kind.now)) }
 {
     match part {
         Data::Object(found) => {
-            if has_other_member(kind.members.as_slice(), found) {
+            if has_other_member(alloc, kind.members.as_slice(), found)? {
                 return Err(wrong(JsonRule::Unknown));
             }
             if has_missing_member(kind.members.as_slice(), found) {
@@ -324,7 +356,7 @@ fn read_case(alloc: Global, cases: &[Case], id: u32, part: &Data) -> Result<Valu
     requires deep { cases_depth (cases_tree cases.now) ≤ 15 }
     requires named { cases_have_text_names (cases_tree cases.now) ≡ true }
     ensures ok { IfOk result (λ v. spec.case_reading (cases_tree cases.now) id (view part.now) ≡ Ok (val v)) }
-    ensures err { IfErr result (λ e. ¬ (e ≡ OutOfMemory) → spec.case_reading (cases_tree cases.now) id (view part.now) ≡ Err e) }
+    ensures err { FailsAs (spec.case_reading (cases_tree cases.now) id (view part.now)) result }
     ensures short { IfErr result (λ e. steps_of e ≤ cases_depth (cases_tree cases.now)) }
 {
     for case in cases {
@@ -347,7 +379,7 @@ fn read_body(
     requires deep { cases_depth (cases_tree cases.now) ≤ 15 }
     requires named { cases_have_text_names (cases_tree cases.now) ≡ true }
     ensures ok { IfOk result (λ v. spec.body_of disc (select (cases_shape cases.now) disc) (spec.case_reading (cases_tree cases.now)) (option_map (λ d. view d.now) part.entry) ≡ Ok (val v)) }
-    ensures err { IfErr result (λ e. ¬ (e ≡ OutOfMemory) → spec.body_of disc (select (cases_shape cases.now) disc) (spec.case_reading (cases_tree cases.now)) (option_map (λ d. view d.now) part.entry) ≡ Err e) }
+    ensures err { FailsAs (spec.body_of disc (select (cases_shape cases.now) disc) (spec.case_reading (cases_tree cases.now)) (option_map (λ d. view d.now) part.entry)) result }
     ensures short { IfErr result (λ e. steps_of e ≤ cases_depth (cases_tree cases.now)) }
 {
     match (select(cases, disc), part) {
@@ -369,7 +401,7 @@ fn read_parts(
     requires deep { depth (union_tree kind.now) ≤ 16 }
     requires named { has_text_names (union_tree kind.now) ≡ true }
     ensures ok { IfOk result (λ v. spec.value_of (union_tree kind.now) (object (members_view found.now.entries)) ≡ Ok (val v)) }
-    ensures err { IfErr result (λ e. ¬ (e ≡ OutOfMemory) → spec.value_of (union_tree kind.now) (object (members_view found.now.entries)) ≡ Err e) }
+    ensures err { FailsAs (spec.value_of (union_tree kind.now) (object (members_view found.now.entries))) result }
     ensures short { IfErr result (λ e. steps_of e < depth (union_tree kind.now)) }
 {
     if has_other_than_union(found) {
@@ -395,7 +427,7 @@ fn read_union(alloc: Global, kind: &UnionType, part: &Data) -> Result<Value, Val
     requires deep { depth (union_tree kind.now) ≤ 16 }
     requires named { has_text_names (union_tree kind.now) ≡ true }
     ensures ok { IfOk result (λ v. spec.value_of (union_tree kind.now) (view part.now) ≡ Ok (val v)) }
-    ensures err { IfErr result (λ e. ¬ (e ≡ OutOfMemory) → spec.value_of (union_tree kind.now) (view part.now) ≡ Err e) }
+    ensures err { FailsAs (spec.value_of (union_tree kind.now) (view part.now)) result }
     ensures short { IfErr result (λ e. steps_of e < depth (union_tree kind.now)) }
 {
     match part {
@@ -413,7 +445,7 @@ pub(crate) fn read_value(alloc: Global, ty: &XType, part: &Data) -> Result<Value
     requires deep { depth (tree ty.now) ≤ 16 }
     requires named { has_text_names (tree ty.now) ≡ true }
     ensures ok { IfOk result (λ v. spec.value_of (tree ty.now) (view part.now) ≡ Ok (val v)) }
-    ensures err { IfErr result (λ e. ¬ (e ≡ OutOfMemory) → spec.value_of (tree ty.now) (view part.now) ≡ Err e) }
+    ensures err { FailsAs (spec.value_of (tree ty.now) (view part.now)) result }
     ensures short { IfErr result (λ e. steps_of e < depth (tree ty.now)) }
 {
     match ty {
@@ -435,7 +467,7 @@ pub fn read_json(alloc: Global, ty: &XType, text: &[u8]) -> Result<Value, ValueF
     requires deep { depth (tree ty.now) ≤ 16 }
     requires named { has_text_names (tree ty.now) ≡ true }
     ensures ok { IfOk result (λ v. spec.read_as (tree ty.now) text.now ≡ Ok (val v)) }
-    ensures err { IfErr result (λ e. ¬ (e ≡ OutOfMemory) → spec.read_as (tree ty.now) text.now ≡ Err e) }
+    ensures err { FailsAs (spec.read_as (tree ty.now) text.now) result }
 {
     match Data::from_slice(alloc, text) {
         Ok(part) => read_value(alloc, ty, &part),

@@ -2,24 +2,28 @@ ghost use Rattle.std.specs.Prelude.{◌≡◌, [], ◌∷◌, ◌++◌, true, po
 ghost use Rattle.std.specs.Int.{w32, w64, to_be_bytes};
 ghost use Rattle.std.specs.Str.{is_utf8};
 ghost use Rattle.xt_shapes.specs.Lists.{all};
-ghost use Rattle.json.specs.Token.{string, key};
+ghost use Rattle.json.specs.Token.{string, key, number};
+ghost use Rattle.std.specs.Fmt.{decimal};
+ghost use Rattle.std.specs.Prelude.{ℕ};
 ghost use Rattle.json.specs.Tree.{json_tokens, items_tokens, members_tokens};
 ghost use Rattle.hex.specs.Hex.{encode_lower};
 ghost use Rattle.serde_json.specs.Written.{outline, items_outline, members_outline};
 ghost use Rattle.serde_json.specs.Data as data_tree;
 ghost use Rattle.std.specs.Prelude.{Some, ◌<◌, length};
-ghost use Rattle.std.specs.Prelude.{◌≤◌};
+ghost use Rattle.std.specs.Prelude.{◌≤◌, map};
 ghost use Rattle.xt_shapes.specs.Select.{select};
 ghost use Rattle.type_trees.specs.Bridge.{cases_shape};
 ghost use Rattle.type_rules.specs.Places.{depth};
 ghost use Rattle.json_values.specs.Read.{json_of};
 ghost use Rattle.xt_shapes.specs.Vals.{struct_of};
 ghost use Rattle.type_trees.specs.View.{tree, val, vals, pair_val, pairs_val, body_val, slots_val, union_val, members_tree, cases_tree, struct_tree, union_tree};
-ghost use Rattle.json_values.specs.Names.{name_text, literal_names, has_text_names, members_have_text_names, cases_have_text_names};
+ghost use Rattle.json_values.specs.Names.{digits_of, name_text, literal_names, has_text_names, members_have_text_names, cases_have_text_names};
 ghost use Rattle.json_values.specs.Order.{entries_data, put_at, at_data, slot_data};
 ghost use Rattle.json_values.specs.Written as spec;
 
-use crate::leaves::hashed_text;
+use crate::indices::FEW;
+use crate::names::{digits_of_names, hashed_text, name_in, text_of};
+use crate::write_lists::{write_literals, write_numbers};
 use json::Writer;
 use std::alloc::{AllocError, Global};
 use std::collections::BTreeMap;
@@ -30,14 +34,6 @@ use type_trees::{
 use type_values::is_of_prim;
 use xt_lists::{OutOfMemory, Text};
 use xt_shapes::Prim;
-
-/// Octets that are a text, as one.
-fn text_of(octets: &[u8]) -> &str
-    requires { is_utf8 octets.now ≡ true }
-    ensures { result.now ≡ octets.now }
-{
-    unsafe { std::str::from_utf8_unchecked(octets) }
-}
 
 fn digits32(bits: u32) -> [u8; 8]
     ensures { result ≡ encode_lower (to_be_bytes w32 bits) }
@@ -50,6 +46,7 @@ fn digits32(bits: u32) -> [u8; 8]
     digits
 }
 
+#[inline(always)]
 fn write_bits32(bits: u32, out: &mut Writer) -> Result<(), AllocError>
     ensures ok { OnOk result (out.new.tokens ≡ out.old.tokens ++ string (encode_lower (to_be_bytes w32 bits)) ∷ []) }
     ensures before { out.new.before ≡ out.old.before }
@@ -69,6 +66,7 @@ fn digits64(bits: u64) -> [u8; 16]
     digits
 }
 
+#[inline(always)]
 fn write_bits64(bits: u64, out: &mut Writer) -> Result<(), AllocError>
     ensures ok { OnOk result (out.new.tokens ≡ out.old.tokens ++ string (encode_lower (to_be_bytes w64 bits)) ∷ []) }
     ensures before { out.new.before ≡ out.old.before }
@@ -77,20 +75,50 @@ fn write_bits64(bits: u64, out: &mut Writer) -> Result<(), AllocError>
     out.string(text_of(digits.as_slice()))
 }
 
+#[inline(always)]
+fn write_digits(digits: &[u8], out: &mut Writer) -> Result<(), AllocError>
+    requires { (n : ℕ) × (n < 256) × (digits.now ≡ decimal n) }
+    ensures ok { OnOk result (out.new.tokens ≡ out.old.tokens ++ number digits.now ∷ []) }
+    ensures before { out.new.before ≡ out.old.before }
+{
+    out.number(text_of(digits))
+}
+
+/// A number of one octet. Its digits need no buffer.
+#[inline(always)]
+fn write_octet(octet: u8, out: &mut Writer) -> Result<(), AllocError>
+    ensures ok { OnOk result (out.new.tokens ≡ out.old.tokens ++ number (decimal octet) ∷ []) }
+    ensures before { out.new.before ≡ out.old.before }
+{
+    let last = 48 + octet % 10;
+    if octet < 10 {
+        return write_digits(&[last], out);
+    }
+    let middle = 48 + octet / 10 % 10;
+    if octet < 100 {
+        return write_digits(&[middle, last], out);
+    }
+    write_digits(&[48 + octet / 100, middle, last], out)
+}
+
+#[inline(always)]
 fn write_whole(number: i128, out: &mut Writer) -> Result<(), AllocError>
     requires low { int_le (negsuc 9223372036854775807) number ≡ true }
     requires high { int_le number (pos 18446744073709551615) ≡ true }
     ensures ok { OnOk result (out.new.tokens ≡ out.old.tokens ++ json_tokens (outline (spec.whole number))) }
     ensures before { out.new.before ≡ out.old.before }
 {
-    if number < 0 {
+    if number >= 0 && number < 256 {
+        write_octet(number as u8, out)
+    } else if number < 0 {
         out.i64(number as i64)
     } else {
         out.u64(number as u64)
     }
 }
 
-fn write_prim(prim: Prim, number: i128, out: &mut Writer) -> Result<(), AllocError>
+#[inline(always)]
+pub(crate) fn write_prim(prim: Prim, number: i128, out: &mut Writer) -> Result<(), AllocError>
     ensures ok { OnOk result (out.new.tokens ≡ out.old.tokens ++ json_tokens (outline (spec.prim_data prim number))) }
     ensures before { out.new.before ≡ out.old.before }
 {
@@ -178,31 +206,16 @@ fn write_text(alloc: Global, octets: &[u8], out: &mut Writer) -> Result<(), Allo
     }
 }
 
-fn octets_string(alloc: Global, octets: &[u8]) -> Result<String, AllocError>
-    requires { is_utf8 octets.now ≡ true }
-    ensures { IfOk result (λ s. string_bytes s ≡ octets.now) }
-{
-    String::from_str(alloc, text_of(octets))
-}
-
-fn key_of(alloc: Global, name: &Name) -> Result<String, AllocError>
-    requires { is_utf8 (name_text name.now) ≡ true }
-    ensures { IfOk result (λ s. string_bytes s ≡ name_text name.now) }
-{
-    match name {
-        Name::Full(full) => octets_string(alloc, full.octets()),
-        Name::Hashed(hash) => octets_string(alloc, hashed_text(*hash).as_slice()),
-    }
-}
-
 /// Lists a present slot under its member's name.
-fn put_name(
-    alloc: Global,
-    members: &[Member],
+#[inline(always)]
+fn put_name<'v>(
+    members: &'v [Member],
     slots: &[Slot],
+    digits: &'v [[u8; 9]],
     at: usize,
-    order: &mut BTreeMap<String, usize>,
+    order: &mut BTreeMap<&'v str, usize>,
 ) -> Result<(), AllocError>
+    requires digits { digits.now ≡ map (λ m. digits_of m.name) members.now }
     requires within { at < length members.now }
     requires named { members_have_text_names (members_tree members.now) ≡ true }
     ensures { OnOk result (entries_data members.now slots.now order.new.entries ≡ put_at members.now slots.now at (entries_data members.now slots.now order.old.entries)) }
@@ -213,31 +226,34 @@ fn put_name(
     match &slots[at] {
         Slot::Absent => Ok(()),
         Slot::Present(_) => {
-            let key = key_of(alloc, &members[at].name)?;
-            drop(order.insert(key, at)?);
+            let name = name_in(&members[at].name, &digits[at]);
+            drop(order.insert(name, at)?);
             Ok(())
         }
     }
 }
 
 /// The present slots by their members' names.
-fn order_of(
+fn order_of<'v>(
     alloc: Global,
-    members: &[Member],
+    members: &'v [Member],
     slots: &[Slot],
-) -> Result<BTreeMap<String, usize>, AllocError>
-    requires { members_have_text_names (members_tree members.now) ≡ true }
+    digits: &'v [[u8; 9]],
+) -> Result<BTreeMap<&'v str, usize>, AllocError>
+    requires digits { digits.now ≡ map (λ m. digits_of m.name) members.now }
+    requires named { members_have_text_names (members_tree members.now) ≡ true }
     ensures { IfOk result (λ m. entries_data members.now slots.now m.entries ≡ spec.slots_data (members_tree members.now) (slots_val slots.now) data_tree.no_members) }
 {
     let mut order = BTreeMap::new(alloc);
     for at in 0..members.len() {
-        put_name(alloc, members, slots, at, &mut order)?;
+        put_name(members, slots, digits, at, &mut order)?;
     }
     Ok(order)
 }
 
 #[cycle(write_value)]
 #[tactic(auto, using(type_trees::proofs::Views::val_rules))]
+#[inline(always)]
 fn write_slot(
     alloc: Global,
     member: &Member,
@@ -255,6 +271,7 @@ fn write_slot(
 }
 
 #[cycle(write_value)]
+#[inline(always)]
 fn write_at(
     alloc: Global,
     members: &[Member],
@@ -278,7 +295,7 @@ fn write_members(
     alloc: Global,
     members: &[Member],
     slots: &[Slot],
-    order: &BTreeMap<String, usize>,
+    order: &BTreeMap<&str, usize>,
     out: &mut Writer,
 ) -> Result<(), AllocError>
     requires { members_have_text_names (members_tree members.now) ≡ true }
@@ -286,14 +303,14 @@ fn write_members(
     ensures before { out.new.before ≡ out.old.before }
 {
     for (key, at) in order.iter() {
-        out.key(key.as_str())?;
+        out.key(key)?;
         write_at(alloc, members, slots, *at, out)?;
     }
     out.end_object()
 }
 
 #[cycle(write_value)]
-fn write_items(
+fn write_each(
     alloc: Global,
     ty: &XType,
     values: &[Value],
@@ -309,8 +326,31 @@ fn write_items(
     out.end_array()
 }
 
+/// The rest of a list, with its end. Numbers are written without a look at the type for each, and many literals by an index.
+#[cycle(write_value)]
+#[tactic(auto, using(type_trees::proofs::Views::tree_rules))]
+fn write_items(
+    alloc: Global,
+    ty: &XType,
+    values: &[Value],
+    out: &mut Writer,
+) -> Result<(), AllocError>
+    requires { has_text_names (tree ty.now) ≡ true }
+    ensures ok { OnOk result (out.new.tokens ≡ out.old.tokens ++ items_tokens (items_outline (spec.vals_data (spec.data_of (tree ty.now)) (vals values.now)))) }
+    ensures before { out.new.before ≡ out.old.before }
+{
+    match ty {
+        XType::Prim(prim) => write_numbers(*prim, values, out),
+        XType::Enum(kind) if kind.literals.len() > FEW && values.len() > FEW => {
+            write_literals(alloc, kind.literals.as_slice(), values, out)
+        }
+        _ => write_each(alloc, ty, values, out),
+    }
+}
+
 #[cycle(write_value)]
 #[tactic(auto, using(type_trees::proofs::Views::val_rules))]
+#[inline(always)]
 fn write_pair(
     alloc: Global,
     kind: &MapType,
@@ -422,7 +462,8 @@ fn write_struct(
     ensures ok { OnOk result (out.new.tokens ≡ out.old.tokens ++ json_tokens (outline (spec.data_of (struct_tree kind.now) (struct_of (slots_val slots.now))))) }
     ensures before { out.new.before ≡ out.old.before }
 {
-    let order = order_of(alloc, kind.members.as_slice(), slots)?;
+    let digits = digits_of_names(alloc, kind.members.as_slice())?;
+    let order = order_of(alloc, kind.members.as_slice(), slots, digits.as_slice())?;
     out.begin_object()?;
     write_members(alloc, kind.members.as_slice(), slots, &order, out)
 }

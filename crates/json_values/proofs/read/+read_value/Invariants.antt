@@ -7,8 +7,8 @@ use Rattle.json_values.specs.Read.{value_of, items_of, entries_of, slots_in, cas
 use Rattle.json_values.proofs.Built.{after}
 use Rattle.json_values.proofs.read.+read_value.Given as goal
 
-abbrev pub invariant-read_items-loop-item : goal.invariant-read_items-loop-item
-invariant-read_items-loop-item l =
+abbrev pub invariant-read_each-loop-item : goal.invariant-read_each-loop-item
+invariant-read_each-loop-item l =
     after (map val l.values) (items_of (value_of (tree l.ty)) (items_view (drop l.item-index l.items))) ≡ items_of (value_of (tree l.ty)) (items_view l.items)
 
 abbrev pub invariant-read_pairs-loop-item : goal.invariant-read_pairs-loop-item

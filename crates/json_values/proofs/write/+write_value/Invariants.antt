@@ -7,8 +7,8 @@ use Rattle.json_values.specs.Order.{entries_data}
 use Rattle.json_values.specs.Written.{data_of, vals_data, pairs_data, case_data}
 use Rattle.json_values.proofs.write.+write_value.Given as goal
 
-abbrev pub invariant-write_items-loop-value : goal.invariant-write_items-loop-value
-invariant-write_items-loop-value l =
+abbrev pub invariant-write_each-loop-value : goal.invariant-write_each-loop-value
+invariant-write_each-loop-value l =
     (l.out.before ≡ l.initial.out.before)
     × (l.out.tokens ++ items_tokens (items_outline (vals_data (data_of (tree l.ty)) (vals (drop l.value-index l.values)))) ≡ l.initial.out.tokens ++ items_tokens (items_outline (vals_data (data_of (tree l.ty)) (vals l.values))))
 

@@ -1,0 +1,10 @@
+use Rattle.std.proofs.Common.{◌≤◌, length, drop}
+use Rattle.json_values.specs.Indices.{HoldsValues}
+use Rattle.json_values.proofs.indices.ValueIndex.new.Given as goal
+
+-- the literals from there on are held
+abbrev pub invariant-literals : goal.invariant-literals
+invariant-literals l = (l.at ≤ length l.literals) × HoldsValues (drop l.at l.literals) l.by_name
+
+abbrev pub decreases-literals : goal.decreases-literals
+decreases-literals l = l.at

@@ -1,0 +1,13 @@
+use Rattle.std.proofs.Common.{◌-◌, ◌∙◌, ap, sym, arith}
+use Rattle.type_trees.specs.declared.types.Member.{Member}
+use Rattle.json_values.specs.Names.{name_text}
+use Rattle.json_values.proofs.Order.{named_member}
+use Rattle.json_values.proofs.IndexSteps.{names_step}
+use Rattle.json_values.proofs.indices.names_of.Goals as goal
+
+pub key_of-requires : goal.key_of-requires
+key_of-requires c = (named_member c.args.members.now (c.members.at - 1) c.index-members-at.result (omega arith) c.requires).0
+
+pub members-preserved : goal.members-preserved
+members-preserved c =
+    (omega arith, names_step c.args.members.now (c.members.at - 1) c.members.at c.index-members-at.result c.in_ok-key_of.field-0 c.members.names c.insert.new.self (omega arith) (omega arith) c.index-members-at.is (c.in_ok-key_of.ensures ∙ ap (λ (m : Member). name_text m.name) (sym c.index-members-at.is)) c.in_ok-insert.ensures.updates c.members.invariant.1)
