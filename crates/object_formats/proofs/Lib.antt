@@ -4,3 +4,4 @@ pub mod Texts
 pub mod Tables
 pub mod Whole
 pub mod Views
+pub mod OwnKinds

@@ -12,7 +12,7 @@ use Rattle.object_formats.specs.declared.codes.Kind.TheVariants as K
 use Rattle.object_formats.specs.Format.{spot, fault, ◌>>=◌, num, both, before, behind, tagged, counted}
 use Rattle.object_formats.specs.Objects.{Identifier, MemberPart, CasePart, Object}
 use Rattle.object_formats.specs.Objects.{alias, enumeration, bitmask, structure, union}
-use Rattle.std.specs.Prelude.{IfOk}
+use Rattle.std.specs.Prelude.{IfOk, OnOk}
 use Rattle.object_formats.specs.declared.faults.ObjectFault.{ObjectFault}
 use Rattle.object_formats.specs.declared.objects.TypeObject.{TypeObject}
 use Rattle.object_formats.specs.View.{object, Answers}
@@ -156,7 +156,7 @@ pub lawful_object : Lawful T.object
 unfolding T.object
 lawful_object = lawful_counted (tagged rules.Kind T.complete_of T.own T.is_complete T.kinds) (lawful_tagged rules.Kind T.complete_of T.own T.is_complete T.kinds own_below own_again own_back lawful_kinds complete_there)
 
-guard_ok : {A : Type 0} (b : Bool) (d : Fault) (r : Result A Fault) (y : A) → cond b (Err d) r ≡ Ok y → (b ≡ false) × (r ≡ Ok y)
+pub guard_ok : {A : Type 0} (b : Bool) (d : Fault) (r : Result A Fault) (y : A) → cond b (Err d) r ≡ Ok y → (b ≡ false) × (r ≡ Ok y)
 guard_ok true d r y e = absurd cc
 guard_ok false d r y e = (refl, e)
 
@@ -194,6 +194,6 @@ module _ (bs : List ℕ) (fits : IsOctets bs) where
   answered_is_text (Ok o) e = (read_is_written bs (object o) fits e).1
   answered_is_text (Err f) e = tt
 
-  pub answered_is_short : (r : Result TypeObject ObjectFault) → Answers (λ (o : TypeObject). object o) r (T.object_of bs) → IfOk r (λ o. length bs ≤ 131072)
+  pub answered_is_short : (r : Result TypeObject ObjectFault) → Answers (λ (o : TypeObject). object o) r (T.object_of bs) → OnOk r (length bs ≤ 131072)
   answered_is_short (Ok o) e = (read_is_written bs (object o) fits e).2
   answered_is_short (Err f) e = tt

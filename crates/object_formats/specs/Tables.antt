@@ -1,5 +1,6 @@
 -- What an object is spelled as. The numbers of kinds and flags are the standard's (DDS-XTypes 1.3, annex B); the layout is this profile's own.
 use Rattle.std.specs.Prelude.{ℕ, zero, suc, ◌+◌, ◌-◌, ◌%◌, ℤ, List, [], ◌∷◌, Bool, true, false, cond, not, ◌&&◌, ◌||◌, Option, Some, None, Result, Ok, length, nat_lt, nat_le, ◌==◌}
+use Rattle.std.specs.List.{list_any}
 use Rattle.xt_shapes.specs.declared.leaves.Primitive.{Primitive}
 use Rattle.xt_shapes.specs.declared.leaves.Primitive.TheVariants as P
 use Rattle.type_trees.specs.declared.types.HashId.{HashId}
@@ -146,8 +147,7 @@ abbrev pub is_large : ℕ → Bool
 is_large n = nat_le 256 n
 
 abbrev pub any_large : List ℕ → Bool
-any_large [] = false
-any_large (n ∷ ns) = is_large n || any_large ns
+any_large ns = list_any is_large ns
 
 -- the code of an identifier; none has no code of its own, and is no prim
 abbrev pub code : Identifier → Code

@@ -48,12 +48,7 @@ pub fn own_kind(complete: bool) -> u8
 pub fn any_large(dims: &[u32]) -> bool
     ensures { result ≡ spec.any_large dims.now }
 {
-    for size in dims {
-        if 256 <= *size {
-            return true;
-        }
-    }
-    false
+    dims.iter().any(|size| 256 <= *size)
 }
 
 /// Whether no hash stands in it.

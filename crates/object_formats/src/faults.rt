@@ -1,3 +1,9 @@
+ghost use Rattle.std.specs.Prelude.{Some};
+ghost use Rattle.object_formats.specs.Words.{object_rule_text};
+
+use std::fmt;
+use thiserror::Error;
+
 /// The rules of an object's text, each with the place that a fault names. The first fault in reading order counts.
 #[derive(Debug, Clone, Copy, PartialEq, Eq)]
 pub enum ObjectRule {
@@ -26,17 +32,41 @@ pub enum ObjectRule {
     Trailing,
 }
 
+/// A rule in one lower-case word, that of its name.
+impl fmt::Display for ObjectRule {
+    ghost output = { λ rule. Some (object_rule_text rule) };
+
+    fn fmt<W: fmt::Write>(&self, f: &mut fmt::Formatter<W>) -> fmt::Result {
+        f.write_str(match self {
+            ObjectRule::Long => "long",
+            ObjectRule::Short => "short",
+            ObjectRule::Kind => "kind",
+            ObjectRule::Padding => "padding",
+            ObjectRule::Delimiter => "delimiter",
+            ObjectRule::Flags => "flags",
+            ObjectRule::Text => "text",
+            ObjectRule::Annotation => "annotation",
+            ObjectRule::Identifier => "identifier",
+            ObjectRule::Base => "base",
+            ObjectRule::Trailing => "trailing",
+        })
+    }
+}
+
 /// The first fault of a text: the rule that it breaks, and the place, counted from the text's first octet.
-#[derive(Debug, Clone, Copy, PartialEq, Eq)]
+#[derive(Debug, Clone, Copy, PartialEq, Eq, Error)]
+#[error("no object's text, by the rule of {rule} at octet {at}")]
 pub struct Fault {
     pub at: u32,
     pub rule: ObjectRule,
 }
 
 /// Why octets gave no object.
-#[derive(Debug, Clone, Copy, PartialEq, Eq)]
+#[derive(Debug, Clone, Copy, PartialEq, Eq, Error)]
 pub enum ObjectFault {
     /// They are no object's text; this is their first fault.
+    #[error("no object's text, by the rule of {rule} at octet {at}")]
     Not { at: u32, rule: ObjectRule },
+    #[error("memory was wanting")]
     OutOfMemory,
 }

@@ -1,5 +1,5 @@
 -- Octets that end with no NUL, or have one before.
-use Rattle.std.proofs.Common.{◌≡◌, ℕ, zero, suc, Bool, true, false, List, [], ◌∷◌, ◌++◌, length, Option, Some, None, refl, ap, arith}
+use Rattle.std.proofs.Common.{◌≡◌, ℕ, zero, suc, true, List, [], ◌∷◌, ◌++◌, length, None, refl, ap, arith}
 use Rattle.object_formats.specs.Format.{has_nul, led_by, ended}
 
 pub ended_nul : (t : List ℕ) (b : ℕ) → has_nul t ≡ true → ended (t ++ b ∷ []) ≡ None

@@ -1,6 +1,7 @@
 -- Numbers of few octets, and padding step by step.
-use Rattle.std.proofs.Common.{◌≡◌, ℕ, zero, suc, ◌+◌, ◌-◌, ◌*◌, ◌<◌, List, [], ◌∷◌, length, get_or, Ok, refl, ap, ◌∙◌, arith}
+use Rattle.std.proofs.Common.{◌≡◌, ℕ, zero, suc, ◌+◌, ◌*◌, ◌<◌, List, [], ◌∷◌, length, get_or, Ok, refl, ap, ◌∙◌, arith}
 use Rattle.object_formats.specs.declared.faults.ObjectRule.TheVariants as rules
+use Rattle.byteorder.specs.Endian.{little_number}
 use Rattle.object_formats.specs.Octets.{number}
 use Rattle.object_formats.specs.Format.{past, fault, spot}
 
@@ -10,20 +11,26 @@ number_of_one [] e = absurd (omega arith)
 number_of_one (a ∷ []) e = omega arith
 number_of_one (a ∷ b ∷ bs) e = absurd (omega arith)
 
-pub number_of_two : (bs : List ℕ) → length bs ≡ 2 → number bs ≡ get_or bs 0 0 + 256 * get_or bs 1 0
+number_pair : (bs : List ℕ) → length bs ≡ 2 → number bs ≡ get_or bs 0 0 + 256 * get_or bs 1 0
 unfolding number
-number_of_two [] e = absurd (omega arith)
-number_of_two (a ∷ bs) e = let one : number bs ≡ get_or bs 0 0 = number_of_one bs (omega arith) in omega arith
+number_pair [] e = absurd (omega arith)
+number_pair (a ∷ bs) e = let one : number bs ≡ get_or bs 0 0 = number_of_one bs (omega arith) in omega arith
 
 number_of_three : (bs : List ℕ) → length bs ≡ 3 → number bs ≡ get_or bs 0 0 + 256 * (get_or bs 1 0 + 256 * get_or bs 2 0)
 unfolding number
 number_of_three [] e = absurd (omega arith)
-number_of_three (a ∷ bs) e = let two : number bs ≡ get_or bs 0 0 + 256 * get_or bs 1 0 = number_of_two bs (omega arith) in omega arith
+number_of_three (a ∷ bs) e = let two : number bs ≡ get_or bs 0 0 + 256 * get_or bs 1 0 = number_pair bs (omega arith) in omega arith
 
-pub number_of_four : (bs : List ℕ) → length bs ≡ 4 → number bs ≡ get_or bs 0 0 + 256 * (get_or bs 1 0 + 256 * (get_or bs 2 0 + 256 * get_or bs 3 0))
+number_of_four_octets : (bs : List ℕ) → length bs ≡ 4 → number bs ≡ get_or bs 0 0 + 256 * (get_or bs 1 0 + 256 * (get_or bs 2 0 + 256 * get_or bs 3 0))
 unfolding number
-number_of_four [] e = absurd (omega arith)
-number_of_four (a ∷ bs) e = let three : number bs ≡ get_or bs 0 0 + 256 * (get_or bs 1 0 + 256 * get_or bs 2 0) = number_of_three bs (omega arith) in omega arith
+number_of_four_octets [] e = absurd (omega arith)
+number_of_four_octets (a ∷ bs) e = let three : number bs ≡ get_or bs 0 0 + 256 * (get_or bs 1 0 + 256 * get_or bs 2 0) = number_of_three bs (omega arith) in omega arith
+
+pub number_of_two : (bs : List ℕ) → length bs ≡ 2 → little_number 2 bs ≡ number bs
+number_of_two bs e = omega (arith, number_pair bs e)
+
+pub number_of_four : (bs : List ℕ) → length bs ≡ 4 → little_number 4 bs ≡ number bs
+number_of_four bs e = omega (arith, number_of_four_octets bs e)
 
 pub past_done : (n p : ℕ) (bs : List ℕ) → n ≡ 0 → past n p bs ≡ Ok (spot p bs)
 unfolding past

@@ -1,4 +1,5 @@
-ghost use Rattle.std.specs.Prelude.{◌≡◌, ◌≤◌, IfOk, length, map, true};
+ghost use Rattle.std.specs.Prelude.{◌≡◌, ◌≤◌, IfOk, OnOk, length, map, slice_index, true};
+ghost use Rattle.type_trees.specs.Ids.{is_object_kind};
 ghost use Rattle.object_formats.specs.Format.{num, both, before, behind, counted, tagged};
 ghost use Rattle.object_formats.specs.declared.faults.ObjectRule.TheVariants as rule;
 ghost use Rattle.object_formats.specs.Tables as spec;
@@ -335,7 +336,8 @@ pub fn read_object(alloc: Global, octets: &[u8]) -> Result<TypeObject, ObjectFau
     ensures exact { Answers view.object result (spec.object_of octets.now) }
     ensures well_formed { IfOk result (λ o. spec.is_well_formed (view.object o) ≡ true) }
     ensures written { IfOk result (λ o. octets.now ≡ spec.text_of (view.object o)) }
-    ensures short { IfOk result (λ o. length octets.now ≤ 131072) }
+    ensures short { OnOk result (length octets.now ≤ 131072) }
+    ensures kind { OnOk result (is_object_kind (slice_index octets.now 4) ≡ true) }
 {
     read(alloc, octets)
 }

@@ -32,7 +32,7 @@ fn extends(flags: u16) -> bool
     flags == 1 || flags == 2 || flags == 4
 }
 
-pub(crate) fn has_nul(octets: &[u8]) -> bool
+fn has_nul(octets: &[u8]) -> bool
     ensures { result ≡ has_nul octets.now }
 {
     for octet in octets {

@@ -53,8 +53,8 @@ fn code_of(complete: bool, octet: u8) -> Option<Code>
     }
 }
 
-/// The kind of what is in a collection.
-pub(crate) fn ek_of(complete: bool, plain: bool) -> u8
+/// What says of which kind the hashes in a collection are: 0xF3 where there are none.
+pub fn ek_of(complete: bool, plain: bool) -> u8
     ensures { result ≡ spec.ek_of complete plain }
 {
     if plain { 0xF3 } else { own_kind(complete) }

@@ -11,3 +11,4 @@ mod reader;
 mod tests;
 
 pub use bodies::read_object;
+pub use identifiers::ek_of;

@@ -4,6 +4,7 @@ ghost use Rattle.object_formats.specs.Octets.{number, padding};
 ghost use Rattle.object_formats.specs.declared.faults.ObjectFault.TheVariants.{OutOfMemory};
 ghost use Rattle.object_formats.specs.View.{Gives, Passes};
 
+use byteorder::{ByteOrder, LittleEndian};
 use object_formats::{ObjectFault, ObjectRule};
 use std::alloc::Global;
 use xt_lists::Row;
@@ -176,7 +177,7 @@ fn two(octets: &[u8]) -> u16
     requires two { length octets.now ≡ 2 }
     ensures value { result ≡ number octets.now }
 {
-    u16::from(octets[0]) + 256 * u16::from(octets[1])
+    LittleEndian::read_u16(octets)
 }
 
 #[tactic(auto, using(crate::proofs::Numbers::number_of_four))]
@@ -184,8 +185,7 @@ fn four(octets: &[u8]) -> u32
     requires four { length octets.now ≡ 4 }
     ensures value { result ≡ number octets.now }
 {
-    u32::from(octets[0])
-        + 256 * (u32::from(octets[1]) + 256 * (u32::from(octets[2]) + 256 * u32::from(octets[3])))
+    LittleEndian::read_u32(octets)
 }
 
 pub(crate) fn boxed<T>(alloc: Global, value: T) -> Result<Box<T>, ObjectFault>

@@ -3,3 +3,4 @@ pub mod Short
 pub mod Eached
 pub mod Walked
 pub mod Resolved
+pub mod Freely

@@ -1,3 +1,4 @@
 pub mod Resolving
 pub mod Walking
 pub mod Worked
+pub mod Laws

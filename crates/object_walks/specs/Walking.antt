@@ -6,7 +6,7 @@ use Rattle.type_trees.specs.View.{member_tree}
 use Rattle.object_walks.specs.declared.inside.Inside.{Inside, fold-Inside}
 use Rattle.object_walks.specs.declared.inside.Inside.TheOpen.{Inside-F}
 use Rattle.object_walks.specs.declared.place.Place.{Place}
-use Rattle.object_walks.specs.declared.stood.Stood.{Stood}
+use Rattle.object_walks.specs.declared.structure_parts.StructureParts.{StructureParts}
 use Rattle.object_walks.specs.declared.stops.Stop as code
 use Rattle.object_walks.specs.declared.stops.Stop.TheVariants as stops
 use Rattle.object_walks.specs.declared.resolving.ResolveFault.{ResolveFault}
@@ -59,7 +59,7 @@ abbrev pub IsBeneath : Step → code.Stop → code.Stop → Type 0
 IsBeneath step (stops.AtNode fault) new = new ≡ stops.AtNode (record { rule = fault.rule; node = step ∷ fault.node })
 IsBeneath step old new = new ≡ old
 
-abbrev pub standing : Stood → Standing
+abbrev pub standing : StructureParts → Standing
 standing s = (s.bases, map member_tree s.members)
 
 -- what a fault says of an identifier that has no type

@@ -53,19 +53,6 @@ pub(crate) fn in_octet(number: u16) -> u8
     if number < 255 { number as u8 } else { 255 }
 }
 
-/// A copy of the items.
-pub(crate) fn copy_plain<T: Copy>(alloc: Global, items: &Row<T>) -> Result<Row<T>, OutOfMemory>
-where
-    T: Drop,
-    ensures { IfOk result (λ copy. copy ≡ items.now) }
-{
-    let mut copy = Row::new(alloc);
-    for item in items.as_slice() {
-        copy.push(*item)?;
-    }
-    Ok(copy)
-}
-
 pub(crate) fn literals_of(
     alloc: Global,
     literals: &[ObjectLiteral],

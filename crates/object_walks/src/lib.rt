@@ -2,14 +2,16 @@
 #![tactic(auto)]
 
 mod inside;
+mod laws;
 mod leaves;
 mod nodes;
 mod place;
 mod resolving;
-mod stood;
 mod stops;
+mod structure_parts;
 #[cfg(test)]
 mod tests;
 mod walk;
 
+pub use laws::{parts_are_walked, resolved_is_walked, tree_is_one};
 pub use resolving::{ResolveFault, resolve};

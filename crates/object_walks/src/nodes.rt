@@ -5,15 +5,15 @@ ghost use Rattle.object_formats.specs.View as view;
 ghost use Rattle.object_walks.specs.Resolving as spec;
 ghost use Rattle.object_walks.specs.Walking.{standing};
 
-use crate::leaves::{copy_plain, ext_of, flags_of, has_flag, in_octet, literals_of, try_of};
-use crate::stood::Stood;
+use crate::leaves::{ext_of, flags_of, has_flag, in_octet, literals_of, try_of};
+use crate::structure_parts::StructureParts;
 use object_formats::{ObjectCase, ObjectFlag, ObjectLiteral, ObjectMember};
 use std::alloc::Global;
 use type_trees::{
     AliasType, ArrayType, Case, Elem, EnumType, MapType, MaskType, Member, SeqType, StructType,
     UnionType, XType,
 };
-use type_values::{copy_name, copy_optional_text};
+use type_values::{copy_name, copy_optional_text, copy_plain};
 use xt_lists::{OutOfMemory, Row, Text};
 
 #[tactic(auto, using(type_trees::proofs::Views::tree_rules))]
@@ -92,12 +92,12 @@ pub(crate) fn structure_of(
     alloc: Global,
     name: &Option<Text>,
     flags: u16,
-    stood: Stood,
+    parts: StructureParts,
 ) -> Result<XType, OutOfMemory>
-    ensures { IfOk result (λ t. tree t ≡ trees.structure (record { name = name.now; ext = spec.ext_of flags; nested = spec.bit flags 8; hashed_ids = spec.bit flags 16; bases = (standing stood).0 }) (members_of (standing stood).1)) }
+    ensures { IfOk result (λ t. tree t ≡ trees.structure (record { name = name.now; ext = spec.ext_of flags; nested = spec.bit flags 8; hashed_ids = spec.bit flags 16; bases = (standing parts).0 }) (members_of (standing parts).1)) }
 {
     let name = copy_optional_text(alloc, name)?;
-    let Stood { bases, members } = stood;
+    let StructureParts { bases, members } = parts;
     let kind = StructType {
         name,
         ext: ext_of(flags),

@@ -6,19 +6,24 @@ ghost use Rattle.object_walks.specs.Walking.{Refuses, RefusesStop};
 use crate::stops::Stop;
 use crate::walk::walk_from;
 use std::alloc::Global;
+use thiserror::Error;
 use type_object::Pool;
 use type_rules::{TypeFault, check_type};
 use type_trees::{HashId, Path, XType};
 
 /// Why an identifier has no type.
-#[derive(Debug, Drop)]
+#[derive(Debug, Drop, Error)]
 pub enum ResolveFault {
     /// The pool lacks this identifier, the first in the order of the walk.
+    #[error("the pool lacks {0}")]
     Missing(HashId),
     /// This identifier is met inside itself.
+    #[error("{0} is met inside itself")]
     Recursive(HashId),
     /// The type of the asked identifier breaks a rule of valid types.
+    #[error("the type of {id} breaks the rule V{} at {}", .fault.rule, .fault.node)]
     Invalid { id: HashId, fault: TypeFault },
+    #[error("memory was wanting")]
     OutOfMemory,
 }
 

@@ -11,8 +11,8 @@ use crate::nodes::{
     structure_of, union_of,
 };
 use crate::place::Place;
-use crate::stood::Stood;
 use crate::stops::{Stop, at_node, beneath};
+use crate::structure_parts::StructureParts;
 use object_formats::{ObjectCase, ObjectMember, TypeIdentifier, TypeObject};
 use std::alloc::Global;
 use type_object::Pool;
@@ -198,10 +198,10 @@ impl Place<'_> {
     ) -> Result<XType, Stop>
         ensures { Finds tree result nodes.new (spec.structure self.now.pool.now (below self.now) (within self.now) name.now flags (view.identifier base.now) (map view.member members.now) nodes.old) }
     {
-        let mut stood = Stood::new(self.alloc);
-        self.base(MOST_BASES, nodes, ext_of(flags), base, &mut stood)?;
-        self.members(nodes, members, &mut stood.members)?;
-        Ok(structure_of(self.alloc, name, flags, stood)?)
+        let mut parts = StructureParts::new(self.alloc);
+        self.base(MOST_BASES, nodes, ext_of(flags), base, &mut parts)?;
+        self.members(nodes, members, &mut parts.members)?;
+        Ok(structure_of(self.alloc, name, flags, parts)?)
     }
 
     /// What a structure of extensibility `ext` has from its base; there may be `room` bases.
@@ -213,10 +213,10 @@ impl Place<'_> {
         nodes: &mut u32,
         ext: Ext,
         base: &TypeIdentifier,
-        stood: &mut Stood,
+        parts: &mut StructureParts,
     ) -> Result<(), Stop>
-        requires { standing stood.old ≡ ([], []) }
-        ensures { Finds (λ u. standing stood.new) result nodes.new (spec.bases room self.now.pool.now (below self.now) ext (within self.now) (view.identifier base.now) nodes.old) }
+        requires { standing parts.old ≡ ([], []) }
+        ensures { Finds (λ u. standing parts.new) result nodes.new (spec.bases room self.now.pool.now (below self.now) ext (within self.now) (view.identifier base.now) nodes.old) }
     {
         match base {
             TypeIdentifier::None => Ok(()),
@@ -235,7 +235,7 @@ impl Place<'_> {
                     inside: &inside,
                     levels: self.levels,
                 };
-                place.based(room - 1, nodes, ext, object, stood)
+                place.based(room - 1, nodes, ext, object, parts)
             }
             TypeIdentifier::Prim(_)
             | TypeIdentifier::Str { .. }
@@ -254,10 +254,10 @@ impl Place<'_> {
         nodes: &mut u32,
         ext: Ext,
         object: &TypeObject,
-        stood: &mut Stood,
+        parts: &mut StructureParts,
     ) -> Result<(), Stop>
-        requires { standing stood.old ≡ ([], []) }
-        ensures { Finds (λ u. standing stood.new) result nodes.new (spec.of_base (below self.now) (spec.bases room self.now.pool.now (below self.now) ext (within self.now)) (within self.now) ext (view.object object.now) nodes.old) }
+        requires { standing parts.old ≡ ([], []) }
+        ensures { Finds (λ u. standing parts.new) result nodes.new (spec.of_base (below self.now) (spec.bases room self.now.pool.now (below self.now) ext (within self.now)) (within self.now) ext (view.object object.now) nodes.old) }
     {
         match object {
             TypeObject::Struct {
@@ -269,9 +269,9 @@ impl Place<'_> {
                 if !has_ext(*flags, ext) {
                     return Err(Stop::OfWhole(17));
                 }
-                self.base(room, nodes, ext, base, stood)?;
-                self.members(nodes, members.as_slice(), &mut stood.members)?;
-                Ok(stood.push_base(self.alloc, name, *flags)?)
+                self.base(room, nodes, ext, base, parts)?;
+                self.members(nodes, members.as_slice(), &mut parts.members)?;
+                Ok(parts.push_base(self.alloc, name, *flags)?)
             }
             TypeObject::Alias { .. }
             | TypeObject::Enum { .. }

@@ -47,9 +47,9 @@ pub spell_octet : (p n : ℕ) → n < 256 → (num 1 1).spell p n ≡ n ∷ []
 unfolding num octets zeros
 spell_octet p n lt = ap (λ (k : ℕ). zeros k ++ n % 256 ∷ []) (no_padding p) ∙ ap (λ (m : ℕ). m ∷ []) (omega arith)
 
-pub spell_loose : (p n : ℕ) → (num 1 4).spell p n ≡ to_le_bytes w32 n
+pub spell_loose : (p n : ℕ) → (num 1 4).spell p n ≡ octets 4 n
 unfolding num zeros
-spell_loose p n = ap (λ (k : ℕ). zeros k ++ octets 4 n) (no_padding p) ∙ sym (octets_four n)
+spell_loose p n = ap (λ (k : ℕ). zeros k ++ octets 4 n) (no_padding p)
 
 pub low_octet : (p n : ℕ) → (num 1 1).spell p (n % 256) ≡ (num 1 1).spell p n
 unfolding num octets
@@ -87,9 +87,9 @@ then_tag o g t0 t1 t2 e h = then (o ∷ []) g t0 t1 t2 e h
 
 -- the same where the last part is a call's answer
 module _ {X : Type 0} (result : Result X OutOfMemory) where
-  pub word_written : (n : ℕ) (bytes t0 t1 t2 : List ℕ) → bytes ≡ to_le_bytes w32 n → t1 ≡ t0 ++ zeros (padding 4 (length t0)) → IfOk result (λ u. t2 ≡ t1 ++ bytes) → Writes (num 4 4) n t0 result t2
+  pub word_written : (n : ℕ) (bytes t0 t1 t2 : List ℕ) → bytes ≡ octets 4 n → t1 ≡ t0 ++ zeros (padding 4 (length t0)) → IfOk result (λ u. t2 ≡ t1 ++ bytes) → Writes (num 4 4) n t0 result t2
   unfolding num
-  word_written n bytes t0 t1 t2 is e = on_ok result (λ h. h ∙ ap (λ (b : List ℕ). t1 ++ b) (is ∙ octets_four n) ∙ ap (λ (b : List ℕ). b ++ octets 4 n) e ∙ append_assoc t0 _ (octets 4 n))
+  word_written n bytes t0 t1 t2 is e = on_ok result (λ h. h ∙ ap (λ (b : List ℕ). t1 ++ b) is ∙ ap (λ (b : List ℕ). b ++ octets 4 n) e ∙ append_assoc t0 _ (octets 4 n))
 
   pub both_written : {A B : Type 0} (f : Format A) (g : Format B) (x : A) (y : B) (t0 t1 t2 : List ℕ) → t1 ≡ t0 ++ f.spell (length t0) x → Writes g y t1 result t2 → Writes (both f g) (x, y) t0 result t2
   both_written f g x y t0 t1 t2 e = on_ok result (then_both f g x y t0 t1 t2 e)

@@ -3,6 +3,7 @@ ghost use Rattle.object_formats.specs.Format.{num, aligned};
 ghost use Rattle.object_formats.specs.Octets.{octets, zeros, padding};
 ghost use Rattle.object_writer.specs.Writing.{Writes};
 
+use byteorder::{ByteOrder, LittleEndian};
 use std::alloc::Global;
 use std::marker::Model;
 use xt_lists::{OutOfMemory, Text};
@@ -89,7 +90,7 @@ impl Writer {
         ensures { Writes (num 2 2) number self.old result self.new }
     {
         self.pad(2)?;
-        self.raw(&number.to_le_bytes())
+        self.raw(&half_octets(number))
     }
 
     #[tactic(auto, using(crate::proofs::Writes::octets_four, crate::proofs::Writes::join), unfolding(object_formats::specs::Format::num))]
@@ -97,7 +98,7 @@ impl Writer {
         ensures { Writes (num 4 4) number self.old result self.new }
     {
         self.pad(4)?;
-        self.raw(&number.to_le_bytes())
+        self.raw(&word_octets(number))
     }
 
     /// A hash, which is not aligned.
@@ -105,7 +106,7 @@ impl Writer {
     pub(crate) fn loose_word(&mut self, number: u32) -> Result<(), OutOfMemory>
         ensures { Writes (num 1 4) number self.old result self.new }
     {
-        self.raw(&number.to_le_bytes())
+        self.raw(&word_octets(number))
     }
 
     /// Begins a region behind the count of its octets, and gives the place where it begins. The count is 0 until the region is closed.
@@ -134,11 +135,28 @@ impl Writer {
     }
 }
 
-/// Puts a number over the four octets at `at`.
+#[tactic(auto, using(crate::proofs::Writes::octets_two))]
+fn half_octets(number: u16) -> [u8; 2]
+    ensures { result ≡ octets 2 number }
+{
+    let mut octets = [0; 2];
+    LittleEndian::write_u16(&mut octets, number);
+    octets
+}
+
 #[tactic(auto, using(crate::proofs::Writes::octets_four))]
+fn word_octets(number: u32) -> [u8; 4]
+    ensures { result ≡ octets 4 number }
+{
+    let mut octets = [0; 4];
+    LittleEndian::write_u32(&mut octets, number);
+    octets
+}
+
+/// Puts a number over the four octets at `at`.
 fn put_word(text: &mut [u8], at: usize, number: u32)
     requires { at + 4 ≤ length text.old }
     ensures { text.new ≡ take at text.old ++ (octets 4 number ++ drop (at + 4) text.old) }
 {
-    text[at..at + 4].copy_from_slice(&number.to_le_bytes());
+    text[at..at + 4].copy_from_slice(&word_octets(number));
 }

@@ -3,6 +3,7 @@ pub mod Fields
 pub mod Hashes
 pub mod Identifiers
 pub mod Parts
+pub mod Resolving
 pub mod Objects
 pub mod Kept
 pub mod WellFormed

@@ -9,3 +9,13 @@ pub fn objects_are_well_formed()
 pub fn resolves_to_itself()
     ensures { law.ResolvesToItself }
 {}
+
+/// An identifier whose walk ends in a valid type resolves to it.
+pub fn valid_resolves()
+    ensures { law.ValidResolves }
+{}
+
+/// Where an identifier resolves, each identifier in its object resolves to that part of the type.
+pub fn parts_resolve()
+    ensures { law.PartsResolve }
+{}

@@ -6,5 +6,5 @@ mod names;
 #[cfg(test)]
 mod tests;
 
-pub use laws::{objects_are_well_formed, resolves_to_itself};
+pub use laws::{objects_are_well_formed, parts_resolve, resolves_to_itself, valid_resolves};
 pub use names::is_named;

@@ -1,25 +1,23 @@
 -- What becomes of a text, from whether it is an object's and from what the pool has under its identifier.
-use Rattle.std.proofs.Common.{◌≡◌, ℕ, List, [], ◌∷◌, ◌++◌, Result, Ok, Err, refl, ap, ◌∙◌}
+use Rattle.std.proofs.Common.{◌≡◌, ℕ, List, [], ◌∷◌, ◌++◌, Result, Ok, Err, ap, ◌∙◌}
 use Rattle.std.specs.Prelude.{IfOk, IfErr, OnOk}
 use Rattle.type_trees.specs.declared.types.HashId.{HashId}
 use Rattle.object_formats.specs.declared.faults.Fault.{Fault}
-use Rattle.object_formats.specs.declared.faults.ObjectFault.TheVariants as faults
 use Rattle.object_formats.specs.Objects.{Object}
 use Rattle.object_formats.specs.Tables.{object_of}
 use Rattle.type_object.specs.declared.pool.PoolFault.{PoolFault}
 use Rattle.type_object.specs.declared.pool.PoolFault.TheVariants as F
 use Rattle.type_object.specs.Names.{named}
-use Rattle.type_object.specs.Pools.{Texts, Refusal, found, put, added, added_so}
-use Rattle.type_object.specs.Faults.{IsObject, Refuses, refused_if}
+use Rattle.type_object.specs.Pools.{Texts, IsObject, Refusal, found, put, added, added_so}
+use Rattle.type_object.specs.Faults.{Refuses, refused_if}
 
 pub added_is : (pool : Texts) (bs : List ℕ) (id : HashId) (answer : Result (HashId × Texts) Refusal) → IsObject bs → id ≡ named bs → put pool id bs (found id pool) ≡ answer → added pool bs ≡ answer
 unfolding added
 added_is pool bs id answer is name e = ap (added_so pool bs) is.read ∙ rw (← name) e
 
 refused_so : (fault : PoolFault) (pool : Texts) (bs : List ℕ) (read : Result Object Fault) → Refuses fault (refused_if read) → Refuses fault (added_so pool bs read)
-refused_so (F.Object (faults.Not at rule)) pool bs (Ok o) e = absurd cc
-refused_so (F.Object (faults.Not at rule)) pool bs (Err f) e = cc
-refused_so (F.Object faults.OutOfMemory) pool bs read e = absurd e
+refused_so (F.Object fault) pool bs (Ok o) e = absurd cc
+refused_so (F.Object fault) pool bs (Err f) e = cc
 refused_so (F.Clash id) pool bs (Ok o) e = absurd cc
 refused_so (F.Clash id) pool bs (Err f) e = absurd cc
 refused_so F.Full pool bs (Ok o) e = absurd cc

@@ -9,30 +9,29 @@ use Rattle.indexmap.proofs.CallerLemmas.{insert_entry-new}
 use Rattle.object_formats.specs.View as view
 use Rattle.object_formats.specs.Tables.{object_of}
 use Rattle.object_formats.proofs.Whole.{again}
-use Rattle.type_object.specs.Faults.{IsObject}
-use Rattle.type_object.specs.contracts.entry.KeyPartialEq.TheImpl as keys
-use Rattle.type_object.specs.declared.entry.Key.{Key}
+use Rattle.type_trees.specs.contracts.types.HashIdPartialEq.TheImpl as keys
+use Rattle.type_trees.specs.declared.types.HashId.{HashId}
 use Rattle.type_object.specs.declared.entry.Entry.{Entry}
-use Rattle.type_object.specs.Pools.{found, object_at, object_in, answered}
-use Rattle.type_object.specs.Names.{same_id}
-use Rattle.type_object.specs.Entries.{id_of, held}
+use Rattle.type_object.specs.Pools.{IsObject, found, object_at, object_in, answered}
+use Rattle.type_trees.specs.Ids.{same_id}
+use Rattle.type_object.specs.Entries.{held}
 
-same : (k l : Key) → keys.eq-value.it k l ≡ same_id (id_of k) (id_of l)
+same : (k l : HashId) → keys.eq-value.it k l ≡ same_id k l
 same k l = refl
 
 step : (b : Bool) (e : Entry) (o : Option (List ℕ)) (p : Option Entry) → o ≡ option_map (λ (x : Entry). x.octets) p → cond b (Some e.octets) o ≡ option_map (λ (x : Entry). x.octets) (cond b (Some e) p)
 step true e o p h = refl
 step false e o p h = h
 
-pub found_is : (k : Key) (es : List (Key × Entry)) → found (id_of k) (map held es) ≡ option_map (λ (x : Entry). x.octets) (lookup (keys.eq-value.it k) es)
+pub found_is : (k : HashId) (es : List (HashId × Entry)) → found k (map held es) ≡ option_map (λ (x : Entry). x.octets) (lookup (keys.eq-value.it k) es)
 found_is k [] = refl
 found_is k (e ∷ es) =
-    ap (λ (b : Bool). cond b (Some e.1.octets) (found (id_of k) (map held es))) (sym (same k e.0)) ∙ step (keys.eq-value.it k e.0) e.1 (found (id_of k) (map held es)) (lookup (keys.eq-value.it k) es) (found_is k es)
+    ap (λ (b : Bool). cond b (Some e.1.octets) (found k (map held es))) (sym (same k e.0)) ∙ step (keys.eq-value.it k e.0) e.1 (found k (map held es)) (lookup (keys.eq-value.it k) es) (found_is k es)
 
-pub found_some : (k : Key) (es : List (Key × Entry)) (e : Entry) → Some e ≡ lookup (keys.eq-value.it k) es → found (id_of k) (map held es) ≡ Some e.octets
+pub found_some : (k : HashId) (es : List (HashId × Entry)) (e : Entry) → Some e ≡ lookup (keys.eq-value.it k) es → found k (map held es) ≡ Some e.octets
 found_some k es e h = found_is k es ∙ ap (option_map (λ (x : Entry). x.octets)) (sym h)
 
-pub found_none : (k : Key) (es : List (Key × Entry)) → None ≡ lookup (keys.eq-value.it k) es → found (id_of k) (map held es) ≡ None
+pub found_none : (k : HashId) (es : List (HashId × Entry)) → None ≡ lookup (keys.eq-value.it k) es → found k (map held es) ≡ None
 found_none k es h = found_is k es ∙ ap (option_map (λ (x : Entry). x.octets)) (sym h)
 
 absent_is : (o : Option Entry) → option_map (λ (x : Entry). x.octets) o ≡ None → o ≡ None
@@ -45,14 +44,14 @@ entry_read e = again (view.object e.object) e.octets e.text e.well_formed e.shor
 pub entry_is : (e : Entry) (bs : List ℕ) → bs ≡ e.octets → IsObject bs
 entry_is e bs is = record { object = view.object e.object; read = ap object_of is ∙ entry_read e }
 
-pub object_some : (k : Key) (es : List (Key × Entry)) (e : Entry) → Some e ≡ lookup (keys.eq-value.it k) es → object_at (id_of k) (map held es) ≡ Some (view.object e.object)
+pub object_some : (k : HashId) (es : List (HashId × Entry)) (e : Entry) → Some e ≡ lookup (keys.eq-value.it k) es → object_at k (map held es) ≡ Some (view.object e.object)
 object_some k es e h = ap object_in (found_some k es e h) ∙ ap answered (entry_read e)
 
-pub object_none : (k : Key) (es : List (Key × Entry)) → None ≡ lookup (keys.eq-value.it k) es → object_at (id_of k) (map held es) ≡ None
+pub object_none : (k : HashId) (es : List (HashId × Entry)) → None ≡ lookup (keys.eq-value.it k) es → object_at k (map held es) ≡ None
 object_none k es h = ap object_in (found_none k es h)
 
 -- a new key goes last
-pub stored : {S : Type 0} (m : IndexMap Key Entry S) (k : Key) (e : Entry) → found (id_of k) (map held m.entries) ≡ None → map held (insert_entry keys.eq-value.it m.entries k e) ≡ map held m.entries ++ (id_of k, e.octets) ∷ []
+pub stored : {S : Type 0} (m : IndexMap HashId Entry S) (k : HashId) (e : Entry) → found k (map held m.entries) ≡ None → map held (insert_entry keys.eq-value.it m.entries k e) ≡ map held m.entries ++ (k, e.octets) ∷ []
 stored m k e h =
     let absent : get keys.eq-value.it m k ≡ None = absent_is (lookup (keys.eq-value.it k) m.entries) (sym (found_is k m.entries) ∙ h) in
     ap (map held) (insert_entry-new keys.eq-value.it m k e absent) ∙ map_push held m.entries (k, e)

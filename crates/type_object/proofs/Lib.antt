@@ -1,4 +1,6 @@
-pub mod Digits
+pub mod SameIds
 pub mod Founds
 pub mod Noted
 pub mod Added
+pub mod Pooled
+pub mod HashKinds

@@ -1,13 +1,11 @@
 -- Identifiers noted one after another are each noted once.
-use Rattle.std.proofs.Common.{◌≡◌, ℕ, ◌+◌, ◌<◌, Bool, true, false, cond, List, [], ◌∷◌, ◌++◌, map, take, drop, length, get_or, refl, sym, ap, ◌∙◌, append_assoc}
-use Rattle.std.proofs.lemmas.List.{append-nil, map_push, drop_more}
+use Rattle.std.proofs.Common.{◌≡◌, ℕ, ◌+◌, ◌<◌, Bool, true, false, cond, List, [], ◌∷◌, ◌++◌, map, drop, length, get_or, refl, sym, ap, ◌∙◌, append_assoc}
+use Rattle.std.proofs.lemmas.List.{append-nil, drop_more}
 use Rattle.std.specs.Prelude.{◌||◌, Result, Ok, Err, IfOk}
 use Rattle.std.specs.List.{list_any}
 use Rattle.indexmap.specs.IndexSet.{insert_key}
 use Rattle.type_trees.specs.declared.types.HashId.{HashId}
-use Rattle.type_object.specs.contracts.entry.KeyPartialEq.TheImpl as keys
-use Rattle.type_object.specs.declared.entry.Key.{Key}
-use Rattle.type_object.specs.Entries.{id_of}
+use Rattle.type_trees.specs.contracts.types.HashIdPartialEq.TheImpl as keys
 use Rattle.type_object.specs.References.{references, in_order, hashes, member_hashes, case_hashes, is_among, once, note, noted}
 use Rattle.object_formats.specs.declared.objects.ObjectMember.{ObjectMember}
 use Rattle.object_formats.specs.declared.objects.ObjectCase.{ObjectCase}
@@ -26,16 +24,12 @@ pub noted_is : (seen hs : List HashId) → noted seen hs ≡ seen ++ once seen h
 noted_is seen [] = sym (append-nil seen)
 noted_is seen (h ∷ hs) = noted_step (is_among h seen) seen hs h (noted_is seen hs) (noted_is (seen ++ h ∷ []) hs)
 
-among_is : (k : Key) (ks : List Key) → list_any (keys.eq-value.it k) ks ≡ is_among (id_of k) (map id_of ks)
+among_is : (k : HashId) (ks : List HashId) → list_any (keys.eq-value.it k) ks ≡ is_among k ks
 among_is k [] = refl
 among_is k (l ∷ ks) = ap (λ (b : Bool). keys.eq-value.it k l || b) (among_is k ks)
 
-pub note_is : (k : Key) (ks : List Key) → map id_of (insert_key keys.eq-value.it ks k) ≡ note (map id_of ks) (id_of k)
-note_is k ks = by (list_any (keys.eq-value.it k) ks) (among_is k ks)
-  where
-    by : (there : Bool) → there ≡ is_among (id_of k) (map id_of ks) → map id_of (cond there ks (ks ++ k ∷ [])) ≡ note (map id_of ks) (id_of k)
-    by true e = ap (λ (b : Bool). cond b (map id_of ks) (map id_of ks ++ id_of k ∷ [])) e
-    by false e = map_push id_of ks k ∙ ap (λ (b : Bool). cond b (map id_of ks) (map id_of ks ++ id_of k ∷ [])) e
+pub note_is : (k : HashId) (ks : List HashId) → insert_key keys.eq-value.it ks k ≡ note ks k
+note_is k ks = ap (λ (there : Bool). cond there ks (ks ++ k ∷ [])) (among_is k ks)
 
 -- ---- one member or case after another
 
@@ -56,7 +50,7 @@ pub then_noted : {X E : Type 0} (result : Result X E) (seen next new a b c : Lis
 then_noted (Ok x) seen next new a b c e is h = h ∙ ap (λ ids. noted ids b) e ∙ ap (noted (noted seen a)) is ∙ sym (noted_append seen a c)
 then_noted (Err f) seen next new a b c e is h = tt
 
-pub references_are : {E : Type 0} (result : Result (List HashId) E) (none keys slice : List Key) (o : Object) → none ≡ [] → map id_of keys ≡ noted (map id_of none) (in_order o) → slice ≡ keys → IfOk result (λ ids. ids ≡ map id_of slice) → IfOk result (λ ids. ids ≡ references o)
+pub references_are : {E : Type 0} (result : Result (List HashId) E) (none keys slice : List HashId) (o : Object) → none ≡ [] → keys ≡ noted none (in_order o) → slice ≡ keys → IfOk result (λ ids. ids ≡ slice) → IfOk result (λ ids. ids ≡ references o)
 unfolding references
-references_are (Ok ids) none keys slice o empty e is h = h ∙ ap (map id_of) is ∙ e ∙ ap (λ ks. noted (map id_of ks) (in_order o)) empty ∙ noted_is [] (in_order o)
+references_are (Ok ids) none keys slice o empty e is h = h ∙ is ∙ e ∙ ap (λ ks. noted ks (in_order o)) empty ∙ noted_is [] (in_order o)
 references_are (Err f) none keys slice o empty e is h = tt

@@ -1,11 +1,12 @@
 -- Pools: texts of objects by their identifiers, in the order in which they came.
-use Rattle.std.specs.Prelude.{◌≡◌, ℕ, List, [], ◌∷◌, ◌++◌, Bool, cond, Option, Some, None, Result, Ok, Err, length, nat_le, nat_eq}
+use Rattle.std.specs.Prelude.{◌≡◌, ◌≢◌, ◌≤◌, All, AllPairs, ℕ, List, [], ◌∷◌, ◌++◌, Bool, cond, Option, Some, None, Result, Ok, Err, length, nat_le, nat_eq}
 use Rattle.std.specs.Cmp.Lexicographic.{pointwise}
 use Rattle.type_trees.specs.declared.types.HashId.{HashId}
 use Rattle.object_formats.specs.declared.faults.Fault.{Fault}
 use Rattle.object_formats.specs.Objects.{Object}
 use Rattle.object_formats.specs.Tables.{object_of}
-use Rattle.type_object.specs.Names.{named, same_id}
+use Rattle.type_trees.specs.Ids.{same_id}
+use Rattle.type_object.specs.Names.{named}
 
 abbrev pub Texts : Type 0
 Texts = List (HashId × List ℕ)
@@ -14,6 +15,19 @@ Texts = List (HashId × List ℕ)
 abbrev pub found : HashId → Texts → Option (List ℕ)
 found id [] = None
 found id (e ∷ es) = cond (same_id id e.0) (Some e.1) (found id es)
+
+-- the octets are an object's text
+pub record IsObject (bs : List ℕ) : Type 0 where
+  pub object : Object
+  pub read : object_of bs ≡ Ok object
+
+-- What holds of every pool: there are at most 4,096 texts, each is an object's under the identifier that is its own, and no two have
+-- the same identifier.
+pub record IsPool (pool : Texts) : Type 0 where
+  pub few : length pool ≤ 4096
+  pub objects : All (λ e. IsObject e.1) pool
+  pub own : All (λ e. e.0 ≡ named e.1) pool
+  pub distinct : AllPairs (λ a b. a.0 ≢ b.0) pool
 
 abbrev pub answered : Result Object Fault → Option Object
 answered (Ok o) = Some o

@@ -1,9 +1,9 @@
 -- The hash identifiers in an object, each once, in the order of its text.
-use Rattle.std.specs.Prelude.{ℕ, List, [], ◌∷◌, ◌++◌, Bool, true, false, cond, ◌||◌, map}
+use Rattle.std.specs.Prelude.{List, [], ◌∷◌, ◌++◌, Bool, false, cond, ◌||◌}
 use Rattle.type_trees.specs.declared.types.HashId.{HashId}
 use Rattle.object_formats.specs.Objects.{Identifier, MemberPart, CasePart, Object}
 use Rattle.object_formats.specs.Objects.{none, prim, str, sequence, array, map_of, hash, alias, enumeration, bitmask, structure, union}
-use Rattle.type_object.specs.Names.{same_id}
+use Rattle.type_trees.specs.Ids.{same_id}
 
 -- in the order of the text, where a map's value stands before its key
 abbrev pub hashes : Identifier → List HashId

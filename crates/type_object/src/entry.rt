@@ -5,13 +5,6 @@ ghost use Rattle.object_formats.specs.View as view;
 use object_formats::TypeObject;
 use xt_lists::Text;
 
-/// An identifier as a key.
-#[derive(Debug, Clone, Copy, PartialEq, Eq, Hash)]
-pub(crate) struct Key {
-    pub(crate) kind: u8,
-    pub(crate) hash: [u8; 14],
-}
-
 /// A text and its object.
 #[derive(Drop)]
 pub(crate) struct Entry {

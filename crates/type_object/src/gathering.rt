@@ -1,28 +1,28 @@
-ghost use Rattle.std.specs.Prelude.{◌≡◌, map, IfOk};
+ghost use Rattle.std.specs.Prelude.{◌≡◌, All, map, true, IfOk};
+ghost use Rattle.object_formats.specs.Tables.{is_well_formed};
 ghost use Rattle.object_formats.specs.View.{identifier, member, case, object};
-ghost use Rattle.type_object.specs.Entries.{id_of};
 ghost use Rattle.type_object.specs.References as spec;
+ghost use Rattle.type_trees.specs.Ids.{is_object_kind};
 
-use crate::entry::Key;
-use crate::identifiers::key_of;
 use indexmap::IndexSet;
 use object_formats::{ObjectCase, ObjectMember, TypeIdentifier, TypeObject};
 use std::alloc::Global;
 use type_trees::HashId;
 use xt_lists::{OutOfMemory, Row};
 
-/// The hash identifiers in an object, each once, in the order of its text.
+/// The hash identifiers in an object, each once, in the order of its text. In an object that was read, the kind of each is 0xF1 or 0xF2.
 #[tactic(auto, unfolding(crate::specs::References::references))]
 pub fn references(alloc: Global, ty: &TypeObject) -> Result<Row<HashId>, OutOfMemory>
-    ensures { IfOk result (λ ids. ids ≡ spec.references (object ty.now)) }
+    ensures ids { IfOk result (λ ids. ids ≡ spec.references (object ty.now)) }
+    ensures kinds { is_well_formed (object ty.now) ≡ true → IfOk result (All (λ id. is_object_kind id.kind ≡ true)) }
 {
     let mut seen = IndexSet::new(alloc);
     gather(&mut seen, ty)?;
-    ids_of(alloc, seen.as_slice())
+    row_of(alloc, seen.as_slice())
 }
 
-fn gather(seen: &mut IndexSet<Key>, ty: &TypeObject) -> Result<(), OutOfMemory>
-    ensures { IfOk result (λ u. map id_of seen.new.keys ≡ spec.noted (map id_of seen.old.keys) (spec.in_order (object ty.now))) }
+fn gather(seen: &mut IndexSet<HashId>, ty: &TypeObject) -> Result<(), OutOfMemory>
+    ensures { IfOk result (λ u. seen.new.keys ≡ spec.noted seen.old.keys (spec.in_order (object ty.now))) }
 {
     match ty {
         TypeObject::Alias { related, .. } => gather_in(seen, related),
@@ -38,8 +38,8 @@ fn gather(seen: &mut IndexSet<Key>, ty: &TypeObject) -> Result<(), OutOfMemory>
     }
 }
 
-fn gather_members(seen: &mut IndexSet<Key>, members: &[ObjectMember]) -> Result<(), OutOfMemory>
-    ensures { IfOk result (λ u. map id_of seen.new.keys ≡ spec.noted (map id_of seen.old.keys) (spec.member_hashes (map member members.now))) }
+fn gather_members(seen: &mut IndexSet<HashId>, members: &[ObjectMember]) -> Result<(), OutOfMemory>
+    ensures { IfOk result (λ u. seen.new.keys ≡ spec.noted seen.old.keys (spec.member_hashes (map member members.now))) }
 {
     for member in members {
         gather_in(seen, &member.ty)?;
@@ -47,8 +47,8 @@ fn gather_members(seen: &mut IndexSet<Key>, members: &[ObjectMember]) -> Result<
     Ok(())
 }
 
-fn gather_cases(seen: &mut IndexSet<Key>, cases: &[ObjectCase]) -> Result<(), OutOfMemory>
-    ensures { IfOk result (λ u. map id_of seen.new.keys ≡ spec.noted (map id_of seen.old.keys) (spec.case_hashes (map case cases.now))) }
+fn gather_cases(seen: &mut IndexSet<HashId>, cases: &[ObjectCase]) -> Result<(), OutOfMemory>
+    ensures { IfOk result (λ u. seen.new.keys ≡ spec.noted seen.old.keys (spec.case_hashes (map case cases.now))) }
 {
     for case in cases {
         gather_in(seen, &case.ty)?;
@@ -57,8 +57,8 @@ fn gather_cases(seen: &mut IndexSet<Key>, cases: &[ObjectCase]) -> Result<(), Ou
 }
 
 #[tactic(auto, using(object_formats::proofs::Views::identifier_rules, crate::proofs::Noted::noted_append))]
-fn gather_in(seen: &mut IndexSet<Key>, ty: &TypeIdentifier) -> Result<(), OutOfMemory>
-    ensures { IfOk result (λ u. map id_of seen.new.keys ≡ spec.noted (map id_of seen.old.keys) (spec.hashes (identifier ty.now))) }
+fn gather_in(seen: &mut IndexSet<HashId>, ty: &TypeIdentifier) -> Result<(), OutOfMemory>
+    ensures { IfOk result (λ u. seen.new.keys ≡ spec.noted seen.old.keys (spec.hashes (identifier ty.now))) }
 {
     match ty {
         TypeIdentifier::None | TypeIdentifier::Prim(_) | TypeIdentifier::Str { .. } => Ok(()),
@@ -73,21 +73,20 @@ fn gather_in(seen: &mut IndexSet<Key>, ty: &TypeIdentifier) -> Result<(), OutOfM
     }
 }
 
-fn note(seen: &mut IndexSet<Key>, id: &HashId) -> Result<(), OutOfMemory>
-    ensures { IfOk result (λ u. map id_of seen.new.keys ≡ spec.note (map id_of seen.old.keys) id.now) }
+fn note(seen: &mut IndexSet<HashId>, id: &HashId) -> Result<(), OutOfMemory>
+    ensures { IfOk result (λ u. seen.new.keys ≡ spec.note seen.old.keys id.now) }
 {
-    let key = key_of(id);
-    seen.insert(key)?;
+    seen.insert(*id)?;
     Ok(())
 }
 
-fn ids_of(alloc: Global, keys: &[Key]) -> Result<Row<HashId>, OutOfMemory>
-    ensures { IfOk result (λ ids. ids ≡ map id_of keys.now) }
+fn row_of(alloc: Global, ids: &[HashId]) -> Result<Row<HashId>, OutOfMemory>
+    ensures { IfOk result (λ row. row ≡ ids.now) }
 {
-    let mut ids = Row::new(alloc);
-    for key in keys {
-        let Key { kind, hash } = *key;
-        ids.push(HashId { kind, hash })?;
+    let mut row = Row::new(alloc);
+    row.reserve(ids.len())?;
+    for id in ids {
+        row.push(*id)?;
     }
-    Ok(ids)
+    Ok(row)
 }

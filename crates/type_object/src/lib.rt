@@ -9,11 +9,11 @@ mod pool;
 mod tests;
 
 pub use gathering::references;
-pub use identifiers::{hash_of, print_id};
+pub use identifiers::{hash_of, kind_of, named};
 pub use object_formats::{
-    ObjectCase, ObjectFault, ObjectFlag, ObjectLiteral, ObjectMember, ObjectRule, TypeIdentifier,
-    TypeObject, is_complete,
+    Fault, ObjectCase, ObjectFault, ObjectFlag, ObjectLiteral, ObjectMember, ObjectRule,
+    TypeIdentifier, TypeObject, is_complete,
 };
-pub use object_reader::read_object;
+pub use object_reader::{ek_of, read_object};
 pub use object_writer::write_object;
-pub use pool::{Pool, PoolFault};
+pub use pool::{Pool, PoolEntry, PoolFault};

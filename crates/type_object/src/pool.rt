@@ -1,18 +1,21 @@
-ghost use Rattle.std.specs.Prelude.{[], ◌∷◌, ◌++◌, ◌≡◌, ◌≤◌, length, Option, Some, None, IfOk, IfErr, IfSome, map, OnOk, OnErr, MatchResult, Ok};
+ghost use Rattle.std.specs.Prelude.{[], ◌∷◌, ◌++◌, ◌≡◌, ◌<◌, length, None, Some, IfOk, IfErr, IfSome, OnOk, OnErr, map, slice_get, true, Ok};
 ghost use Rattle.std.specs.Option.{option_map};
-ghost use Rattle.object_formats.specs.Tables.{object_of};
+ghost use Rattle.object_formats.specs.Tables.{object_of, is_well_formed};
 ghost use Rattle.object_formats.specs.View as view;
-ghost use Rattle.type_object.specs.Faults.{Decides, Refuses, PassesOn, IsObject, refused_if};
+ghost use Rattle.type_object.specs.Entries.{held};
+ghost use Rattle.type_object.specs.Faults.{Decides, Refuses, PassesOn, refused_if};
+ghost use Rattle.type_object.specs.Names as names;
 ghost use Rattle.type_object.specs.Pools as spec;
-ghost use Rattle.type_object.specs.Entries.{held, id_of};
+ghost use Rattle.type_object.specs.Pools.{IsObject, IsPool};
 
-use crate::entry::{Entry, Key, Placed};
-use crate::identifiers::{key_of, named};
+use crate::entry::{Entry, Placed};
+use crate::identifiers::named;
 use indexmap::IndexMap;
-use object_formats::{ObjectFault, TypeObject};
+use object_formats::{Fault, ObjectFault, TypeObject};
 use object_reader::read_object;
 use std::alloc::Global;
 use std::marker::Model;
+use thiserror::Error;
 use type_trees::HashId;
 use xt_lists::{OutOfMemory, Text};
 
@@ -21,47 +24,90 @@ const MOST: usize = 4_096;
 /// Objects by their identifiers, at most 4,096, in the order in which they came. A look-up goes by the identifier's hash.
 #[derive(Drop)]
 pub struct Pool {
-    entries: IndexMap<Key, Entry>,
+    alloc: Global,
+    entries: IndexMap<HashId, Entry>,
 }
 
 impl Model for Pool {
     ghost use Rattle.std.specs.Prelude.{map};
     ghost use Rattle.type_object.specs.Entries.{held};
-    ghost use Rattle.type_object.specs.Pools.{Texts};
+    ghost use Rattle.type_object.specs.Pools.{Texts, IsPool};
 
     ghost Value = { Texts };
 
     ghost view = { λ pool. map held pool.entries.entries };
+
+    ghost invariant = { λ pool. IsPool (map held pool.entries.entries) };
+}
+
+/// An object that a pool holds.
+#[derive(Drop)]
+pub struct PoolEntry<'a> {
+    pub id: HashId,
+    /// The object's text.
+    pub octets: &'a [u8],
+    pub object: &'a TypeObject,
 }
 
 /// Why a text was not added.
-#[derive(Debug, Clone, Copy, PartialEq, Eq)]
+#[derive(Debug, Clone, Copy, PartialEq, Eq, Error)]
 pub enum PoolFault {
-    /// It is no object's; this is the first fault. It is never `OutOfMemory`.
-    Object(ObjectFault),
+    /// It is no object's; this is the first fault.
+    #[error("{0}")]
+    Object(Fault),
     /// Another text has its identifier.
+    #[error("another text has the identifier {0}")]
     Clash(HashId),
     /// There are 4,096 others.
+    #[error("the pool has no room for more objects")]
     Full,
+    #[error("memory was wanting")]
     OutOfMemory,
 }
 
 impl Pool {
-    /// An empty pool. It takes no memory.
+    /// An empty pool. It takes no memory; what is added later is kept in memory of this allocator.
     pub fn new(alloc: Global) -> Pool
         ensures { result ≡ [] }
     {
         Pool {
+            alloc,
             entries: IndexMap::new(alloc),
+        }
+    }
+
+    /// The number of objects, which is at most 4,096. It takes no memory.
+    pub fn len(&self) -> usize
+        ensures count { result ≡ length self.now }
+        ensures pool { IsPool self.now }
+    {
+        self.entries.len()
+    }
+
+    /// The object at this place in the order in which they came. It takes no memory.
+    pub fn at(&self, index: usize) -> PoolEntry<'_>
+        requires { index < length self.now }
+        ensures entry { slice_get self.now index ≡ Some (result.id, result.octets.now) }
+        ensures own { result.id ≡ names.named result.octets.now }
+        ensures read { object_of result.octets.now ≡ Ok (view.object result.object.now) }
+        ensures well_formed { is_well_formed (view.object result.object.now) ≡ true }
+    {
+        match self.entries.get_index(index) {
+            Some((id, entry)) => PoolEntry {
+                id: *id,
+                octets: entry.octets.octets(),
+                object: &entry.object,
+            },
+            None => unreachable!(),
         }
     }
 
     /// The object that has this identifier; None where the pool lacks it. It takes no memory.
     pub fn get(&self, id: &HashId) -> Option<&TypeObject>
-        ensures { option_map (λ object. view.object object.now) result ≡ spec.object_at id.now self.now }
+        ensures found { option_map (λ object. view.object object.now) result ≡ spec.object_at id.now self.now }
+        ensures well_formed { IfSome result (λ object. is_well_formed (view.object object.now) ≡ true) }
     {
-        let key = key_of(id);
-        match self.entries.get(&key) {
+        match self.entries.get(id) {
             Some(entry) => Some(&entry.object),
             None => None,
         }
@@ -70,10 +116,10 @@ impl Pool {
     /// The text that has this identifier; None where the pool lacks it. It takes no memory.
     pub fn octets(&self, id: &HashId) -> Option<&[u8]>
         ensures found { option_map (λ octets. octets.now) result ≡ spec.found id.now self.now }
+        ensures own { IfSome result (λ octets. id.now ≡ names.named octets.now) }
         ensures read { IfSome result (λ octets. IsObject octets.now) }
     {
-        let key = key_of(id);
-        match self.entries.get(&key) {
+        match self.entries.get(id) {
             Some(entry) => Some(entry.octets.octets()),
             None => None,
         }
@@ -93,8 +139,10 @@ impl Pool {
 
     /// Adds the object of a text, and gives its identifier: the kind and the hash of the text. A text that is there already changes
     /// nothing, and is not read again. The faults are tried in the order of `PoolFault`; a refused call changes nothing.
-    pub fn add(&mut self, alloc: Global, octets: &[u8]) -> Result<HashId, PoolFault>
+    pub fn add(&mut self, octets: &[u8]) -> Result<HashId, PoolFault>
         ensures ok { IfOk result (λ id. spec.added self.old octets.now ≡ Ok (id, self.new)) }
+        ensures own { IfOk result (λ id. id ≡ names.named octets.now) }
+        ensures read { OnOk result (IsObject octets.now) }
         ensures err { IfErr result (λ fault. Refuses fault (spec.added self.old octets.now)) }
         ensures unchanged { OnErr result (self.new ≡ self.old) }
     {
@@ -102,38 +150,41 @@ impl Pool {
         match self.placed(&id, octets) {
             Placed::Present => Ok(id),
             Placed::Clash => {
-                expect_object(alloc, octets)?;
+                expect_object(self.alloc, octets)?;
                 Err(PoolFault::Clash(id))
             }
             Placed::Full => {
-                expect_object(alloc, octets)?;
+                expect_object(self.alloc, octets)?;
                 Err(PoolFault::Full)
             }
-            Placed::Free => self.insert(alloc, id, octets),
+            Placed::Free => self.insert(id, octets),
         }
     }
 
-    fn insert(&mut self, alloc: Global, id: HashId, octets: &[u8]) -> Result<HashId, PoolFault>
-        requires { spec.found id self.old ≡ None }
+    /// Adds a text that isn't there, where there is room.
+    fn insert(&mut self, id: HashId, octets: &[u8]) -> Result<HashId, PoolFault>
+        requires own { id ≡ names.named octets.now }
+        requires absent { spec.found id self.old ≡ None }
+        requires room { length self.old < 4096 }
         ensures ok { IfOk result (λ i. (i ≡ id) × (self.new ≡ self.old ++ (id, octets.now) ∷ [])) }
         ensures err { IfErr result (λ fault. Refuses fault (refused_if (object_of octets.now))) }
         ensures read { OnOk result (IsObject octets.now) }
         ensures unchanged { OnErr result (self.new ≡ self.old) }
     {
-        let entry = entry_of(alloc, octets)?;
-        match store(&mut self.entries, key_of(&id), entry) {
+        let entry = entry_of(self.alloc, octets)?;
+        match store(&mut self.entries, id, entry) {
             Ok(()) => Ok(id),
             Err(_) => Err(PoolFault::OutOfMemory),
         }
     }
 }
 
-fn store(entries: &mut IndexMap<Key, Entry>, key: Key, entry: Entry) -> Result<(), OutOfMemory>
-    requires { spec.found (id_of key) (map held entries.old.entries) ≡ None }
-    ensures ok { OnOk result (map held entries.new.entries ≡ map held entries.old.entries ++ (id_of key, entry.octets) ∷ []) }
+fn store(entries: &mut IndexMap<HashId, Entry>, id: HashId, entry: Entry) -> Result<(), OutOfMemory>
+    requires { spec.found id (map held entries.old.entries) ≡ None }
+    ensures ok { OnOk result (map held entries.new.entries ≡ map held entries.old.entries ++ (id, entry.octets) ∷ []) }
     ensures err { OnErr result (map held entries.new.entries ≡ map held entries.old.entries) }
 {
-    entries.insert(key, entry)?;
+    entries.insert(id, entry)?;
     Ok(())
 }
 
@@ -168,7 +219,7 @@ fn refused(fault: ObjectFault) -> PoolFault
     ensures { PassesOn fault result }
 {
     match fault {
-        ObjectFault::Not { .. } => PoolFault::Object(fault),
+        ObjectFault::Not { at, rule } => PoolFault::Object(Fault { at, rule }),
         ObjectFault::OutOfMemory => PoolFault::OutOfMemory,
     }
 }

@@ -1,6 +1,6 @@
 use crate::{
     ObjectCase, ObjectFlag, ObjectLiteral, ObjectMember, Pool, PoolFault, TypeIdentifier,
-    TypeObject, hash_of, print_id, read_object, references, write_object,
+    TypeObject, hash_of, named, read_object, references, write_object,
 };
 use std::alloc::Global;
 use std::process::Abort;
@@ -250,34 +250,38 @@ fn a_pool_is_full_at_4096(rt: HostRuntime) -> Result<(), Fail> {
     let mut first = None;
     for bound in 1..4097u32 {
         let text = bounded(rt.alloc(), bound)?;
-        let id = pool.add(rt.alloc(), text.octets())?;
+        let id = pool.add(text.octets())?;
         if bound == 1 {
             first = Some(id);
         }
     }
     let more = bounded(rt.alloc(), 4097)?;
-    assert_eq!(rt;
-        pool.add(rt.alloc(), more.octets()).err(),
-        Some(PoolFault::Full)
-    );
+    assert_eq!(rt; pool.add(more.octets()).err(), Some(PoolFault::Full));
     let one = bounded(rt.alloc(), 1)?;
-    assert_eq!(rt; pool.add(rt.alloc(), one.octets()).ok(), first);
+    assert_eq!(rt; pool.add(one.octets()).ok(), first);
     let first = first.ok_or("no first")?;
     assert_eq!(rt; pool.octets(&first).ok_or("not there")?, one.octets());
     assert!(rt; pool.get(&first).is_some());
+    assert_eq!(rt; pool.len(), 4096);
+    assert_eq!(rt; pool.at(0).id, first);
     Ok(())
 }
 
 #[test]
-fn an_identifier_prints_as_30_digits(rt: HostRuntime) -> Result<(), Fail> {
-    let id = HashId {
-        kind: 0xF1,
-        hash: hash_of(&C),
-    };
-    let printed = print_id(rt.alloc(), &id)?;
+fn a_text_has_its_identifier(rt: HostRuntime) -> Result<(), Fail> {
+    let printed = format!(in rt.alloc(); "{}", named(&C))?;
+    assert_eq!(rt; printed.as_str(), "f166f0c72600ad68106416fe70f85e");
+    Ok(())
+}
+
+#[test]
+fn faults_are_printed(rt: HostRuntime) -> Result<(), Fail> {
+    let mut pool = Pool::new(rt.alloc());
+    let fault = pool.add(&C[..38]).err().ok_or("added")?;
+    let printed = format!(in rt.alloc(); "{fault}")?;
     assert_eq!(rt;
-        printed.octets(),
-        b"f166f0c72600ad68106416fe70f85e".as_slice()
+        printed.as_str(),
+        "no object's text, by the rule of short at octet 35"
     );
     Ok(())
 }

@@ -5,7 +5,6 @@ use Rattle.std.specs.Prelude.{Result, Ok, Err, IfOk, IfErr, OnErr, Bool, true, f
 use Rattle.std.specs.Cmp.Lexicographic.{pointwise}
 use Rattle.type_trees.specs.declared.types.HashId.{HashId}
 use Rattle.object_formats.specs.declared.faults.Fault.{Fault}
-use Rattle.object_formats.specs.declared.faults.ObjectFault.TheVariants as faults
 use Rattle.object_formats.specs.Objects.{Object}
 use Rattle.object_formats.specs.Tables.{object_of}
 use Rattle.type_object.specs.Names.{named}
@@ -64,15 +63,13 @@ stops_front : (a b : Texts) (f : Refusal) (xs ys : List (List ℕ)) → Stops a 
 stops_front a b f xs ys h = record { first = all_stopped a b f xs ys h.first }
 
 pub halts_then : (fault : PoolFault) (a b c : Texts) (xs ys : List (List ℕ)) → Adds a xs b → Halts fault b ys c → Halts fault a (xs ++ ys) c
-halts_then (F.Object (faults.Not at rule)) a b c xs ys h k = stops_then a b c _ xs ys h k
-halts_then (F.Object faults.OutOfMemory) a b c xs ys h k = k
+halts_then (F.Object fault) a b c xs ys h k = stops_then a b c _ xs ys h k
 halts_then (F.Clash id) a b c xs ys h k = stops_then a b c _ xs ys h k
 halts_then F.Full a b c xs ys h k = stops_then a b c _ xs ys h k
 halts_then F.OutOfMemory a b c xs ys h k = begins_then a b c xs ys h k
 
 pub halts_front : (fault : PoolFault) (a b : Texts) (xs ys : List (List ℕ)) → Halts fault a xs b → Halts fault a (xs ++ ys) b
-halts_front (F.Object (faults.Not at rule)) a b xs ys h = stops_front a b _ xs ys h
-halts_front (F.Object faults.OutOfMemory) a b xs ys h = h
+halts_front (F.Object fault) a b xs ys h = stops_front a b _ xs ys h
 halts_front (F.Clash id) a b xs ys h = stops_front a b _ xs ys h
 halts_front F.Full a b xs ys h = stops_front a b _ xs ys h
 halts_front F.OutOfMemory a b xs ys h = begins_front a b xs ys h
@@ -135,8 +132,7 @@ unfolding all_added
 stops_one pool f bs e = record { first = ap (λ r. after_added pool r (λ p. all_added p [])) e }
 
 pub halts_one : (fault : PoolFault) (pool : Texts) (bs : List ℕ) → Refuses fault (added pool bs) → Halts fault pool (bs ∷ []) pool
-halts_one (F.Object (faults.Not at rule)) pool bs e = stops_one pool _ bs e
-halts_one (F.Object faults.OutOfMemory) pool bs e = e
+halts_one (F.Object fault) pool bs e = stops_one pool _ bs e
 halts_one (F.Clash id) pool bs e = stops_one pool _ bs e
 halts_one F.Full pool bs e = stops_one pool _ bs e
 halts_one F.OutOfMemory pool bs e = begins_none pool (bs ∷ [])

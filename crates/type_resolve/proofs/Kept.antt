@@ -1,31 +1,18 @@
 -- What is found in a pool is found as long as texts are added.
 use Rattle.std.proofs.Common.{◌≡◌, ℕ, List, [], ◌∷◌, ◌++◌, Option, Some, None, refl, ap, subst, ◌∙◌}
-use Rattle.std.proofs.lemmas.Bool.{eqb-true, eq-eqb, and_parts, and_from}
-use Rattle.std.specs.Prelude.{Bool, true, false, cond, ◌==◌, Result, Ok, Err, length, nat_le, nat_eq}
+use Rattle.std.specs.Prelude.{Bool, true, false, cond, Result, Ok, Err, length, nat_le, nat_eq}
 use Rattle.std.specs.Cmp.Lexicographic.{pointwise}
+use Rattle.std.proofs.lemmas.Slice.Eq.{bytes_eq-Decides}
 use Rattle.type_trees.specs.declared.types.HashId.{HashId}
 use Rattle.object_formats.specs.declared.faults.Fault.{Fault}
 use Rattle.object_formats.specs.Objects.{Object}
 use Rattle.object_formats.specs.Tables.{object_of}
-use Rattle.type_object.specs.Names.{named, same_id}
+use Rattle.type_trees.specs.Ids.{same_id}
+use Rattle.type_object.specs.Names.{named}
+use Rattle.type_object.proofs.SameIds.{same_id_itself}
 use Rattle.type_object.specs.Pools.{Texts, Refusal, clash, full, found, put, added, added_so}
 use Rattle.type_resolve.specs.Adding.{after_added, all_added}
 use Rattle.type_resolve.specs.Held.{IsHeld, AreHeld, Keeps, AddedAreHeld}
-
-pub pointwise_same : (xs : List ℕ) → pointwise nat_eq xs xs ≡ true
-pointwise_same [] = refl
-pointwise_same (x ∷ xs) = and_from (x == x) (pointwise nat_eq xs xs) (eq-eqb x x refl) (pointwise_same xs)
-
-pub pointwise_is : (xs ys : List ℕ) → pointwise nat_eq xs ys ≡ true → xs ≡ ys
-pointwise_is [] [] e = refl
-pointwise_is [] (y ∷ ys) e = absurd cc
-pointwise_is (x ∷ xs) [] e = absurd cc
-pointwise_is (x ∷ xs) (y ∷ ys) e =
-    let p = and_parts (x == y) (pointwise nat_eq xs ys) e in
-    ap (λ z. z ∷ xs) (eqb-true x y p.0) ∙ ap (λ zs. y ∷ zs) (pointwise_is xs ys p.1)
-
-pub same_id_itself : (id : HashId) → same_id id id ≡ true
-same_id_itself id = and_from (id.kind == id.kind) (pointwise nat_eq id.hash id.hash) (eq-eqb id.kind id.kind refl) (pointwise_same id.hash)
 
 -- ---- one more text
 
@@ -68,7 +55,7 @@ put_so pool new id i bs None is e = by (nat_le 4096 (length pool)) e
 put_so pool new id i bs (Some t) is e = by (pointwise nat_eq t bs) refl e
   where
     by : (b : Bool) → pointwise nat_eq t bs ≡ b → cond b (answer id pool) (Err (clash id)) ≡ Ok (i, new) → Put pool new id bs
-    by true same e = subst (λ p. Put pool p id bs) (pool_in (id, pool) (i, new) e) (record { keeps = λ j cs k. k; there = is ∙ ap (λ c. Some c) (pointwise_is t bs same) })
+    by true same e = subst (λ p. Put pool p id bs) (pool_in (id, pool) (i, new) e) (record { keeps = λ j cs k. k; there = is ∙ ap (λ c. Some c) ((bytes_eq-Decides t bs).0 same) })
     by false same e = absurd cc
 
 -- the pool after a text is added

@@ -1,9 +1,8 @@
 -- The walk from an identifier of a type gives the type, where its objects are in the pool.
 use Rattle.std.proofs.Common.{◌≡◌, ℕ, zero, suc, ◌+◌, ◌<◌, ◌≤◌, List, [], ◌∷◌, ◌++◌, map, take, drop, length, refl, sym, ap, subst, ◌∙◌, arith}
-use Rattle.std.proofs.lemmas.Bool.{eqb-true, and_parts, lt-ltb}
+use Rattle.std.proofs.lemmas.Bool.{lt-ltb}
 use Rattle.std.proofs.lemmas.List.{length-append}
-use Rattle.std.specs.Prelude.{Bool, true, false, cond, ◌==◌, ◌||◌, Result, Ok, Err, nat_eq}
-use Rattle.std.specs.Cmp.Lexicographic.{pointwise}
+use Rattle.std.specs.Prelude.{Bool, true, false, cond, ◌||◌, Result, Ok, Err}
 use Rattle.xt_shapes.specs.declared.leaves.Ext.{Ext}
 use Rattle.xt_shapes.specs.declared.leaves.Ext.TheVariants as E
 use Rattle.xt_shapes.specs.declared.leaves.Try.{Try}
@@ -15,24 +14,20 @@ use Rattle.type_trees.specs.Trees.{Tree, MemberHead}
 use Rattle.object_formats.specs.Objects as o
 use Rattle.object_formats.specs.Objects.{Identifier, MemberPart, CasePart, Object}
 use Rattle.object_formats.specs.Tables.{text_of}
-use Rattle.type_object.specs.Names.{named, same_id}
+use Rattle.type_trees.specs.Ids.{same_id}
+use Rattle.type_object.specs.Names.{named}
+use Rattle.type_object.proofs.SameIds.{same_is}
 use Rattle.type_object.specs.Pools.{Texts, object_at}
 use Rattle.type_object.specs.References.{is_among}
 use Rattle.object_walks.specs.Resolving as r
 use Rattle.object_walks.specs.Resolving.{Stop, Got, Walk, ◌>>=◌, follow, present, absent, repeated, at_node, of_whole, node, walk, part, under, beneath, try_of, each, member, members, behind, of_base, base_at, bases, from_base, based}
 use Rattle.type_resolve.specs.Objects.{own, between, type_flags, struct_object, layer_object}
 use Rattle.type_resolve.specs.Held.{IsIn}
-use Rattle.type_resolve.proofs.Kept.{pointwise_is}
 use Rattle.type_resolve.proofs.Back.{type_says}
 use Rattle.type_sizes.specs.TypeNodes.{nodes}
 use Rattle.type_resolve.proofs.Weights.{weigh, weight, total}
 
 -- ---- identifiers that a place stands in
-
-id_is : (a b : HashId) → same_id a b ≡ true → a ≡ b
-id_is a b e =
-    let p = and_parts (a.kind == b.kind) (pointwise nat_eq a.hash b.hash) e in
-    ap (λ (k : ℕ). record { kind = k; hash = a.hash }) (eqb-true a.kind b.kind p.0) ∙ ap (λ (h : List ℕ). record { kind = b.kind; hash = h }) (pointwise_is a.hash b.hash p.1)
 
 module _ (pool : Texts) (most : ℕ) where
   -- each of them is heavier than this
@@ -45,7 +40,7 @@ module _ (pool : Texts) (most : ℕ) where
   above-less v w (i ∷ is) le h = (omega (arith, h.0), above-less v w is le h.1)
 
   other : (b : Bool) (id i : HashId) → same_id id i ≡ b → weigh most pool (o.hash id) < weigh most pool (o.hash i) → b ≡ false
-  other true id i e lt = let same : weigh most pool (o.hash id) ≡ weigh most pool (o.hash i) = ap (λ h. weigh most pool (o.hash h)) (id_is id i e) in absurd (omega arith)
+  other true id i e lt = let same : weigh most pool (o.hash id) ≡ weigh most pool (o.hash i) = ap (λ h. weigh most pool (o.hash h)) (same_is id i e) in absurd (omega arith)
   other false id i e lt = refl
 
   or_false : (a b : Bool) → a ≡ false → b ≡ false → (a || b) ≡ false

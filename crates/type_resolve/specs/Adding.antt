@@ -1,7 +1,6 @@
 -- Texts that are added to a pool one after another, and what an answer says of them.
 use Rattle.std.specs.Prelude.{◌≡◌, ℕ, List, [], ◌∷◌, ◌++◌, Option, Some, None, Result, Ok, Err}
 use Rattle.type_trees.specs.declared.types.HashId.{HashId}
-use Rattle.object_formats.specs.declared.faults.ObjectFault.TheVariants as faults
 use Rattle.type_object.specs.Pools.{Texts, Refusal, no_object, clash, full, added}
 use Rattle.type_object.specs.declared.pool.PoolFault.{PoolFault}
 use Rattle.type_object.specs.declared.pool.PoolFault.TheVariants as F
@@ -32,8 +31,7 @@ pub record Stops (old : Texts) (texts : List (List ℕ)) (new : Texts) (refusal 
 
 -- what a fault says; where memory is wanting, a beginning is added
 abbrev pub Halts : PoolFault → Texts → List (List ℕ) → Texts → Type 0
-Halts (F.Object (faults.Not at rule)) old texts new = Stops old texts new (no_object (record { at = at; rule = rule }))
-Halts (F.Object faults.OutOfMemory) old texts new = ⊥
+Halts (F.Object fault) old texts new = Stops old texts new (no_object fault)
 Halts (F.Clash id) old texts new = Stops old texts new (clash id)
 Halts F.Full old texts new = Stops old texts new full
 Halts F.OutOfMemory old texts new = Begins old texts new

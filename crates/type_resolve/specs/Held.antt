@@ -9,7 +9,7 @@ use Rattle.object_formats.specs.Objects.{Identifier, MemberPart, Object}
 use Rattle.object_formats.specs.Tables.{text_of, is_well_formed}
 use Rattle.type_object.specs.Names.{named}
 use Rattle.type_object.specs.Pools.{Texts, found, object_at}
-use Rattle.type_object.specs.Faults.{IsObject}
+use Rattle.type_object.specs.Pools.{IsObject}
 use Rattle.type_rules.specs.Valid.{type_fault}
 use Rattle.object_walks.specs.Resolving.{resolved}
 use Rattle.type_resolve.specs.Adding.{Adds}

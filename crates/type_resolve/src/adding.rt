@@ -30,7 +30,7 @@ fn add_object(alloc: Global, object: &TypeObject, pool: &mut Pool) -> Result<Has
     let Ok(text) = write_object(alloc, object) else {
         return Err(PoolFault::OutOfMemory);
     };
-    pool.add(alloc, text.octets())
+    pool.add(text.octets())
 }
 
 /// Adds the minimal object, and then the complete one.

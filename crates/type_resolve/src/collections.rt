@@ -1,6 +1,5 @@
 ghost use Rattle.std.specs.Prelude.{◌≡◌, true, IfOk};
 ghost use Rattle.object_formats.specs.Objects as o;
-ghost use Rattle.object_formats.specs.Tables.{ek_of};
 ghost use Rattle.object_formats.specs.View as view;
 ghost use Rattle.type_resolve.specs.Objects as spec;
 ghost use Rattle.type_resolve.specs.Views.{Makes, seen, hashes_seen, sequence_seen, array_seen, map_seen};
@@ -8,9 +7,10 @@ ghost use Rattle.type_resolve.specs.Views.{Makes, seen, hashes_seen, sequence_se
 use crate::adding::made;
 use crate::flags::try_flags;
 use crate::sides::{Identifiers, Sides};
-use object_formats::{TypeIdentifier, own_kind};
+use object_formats::TypeIdentifier;
 use std::alloc::Global;
-use type_object::PoolFault;
+use type_object::{PoolFault, ek_of};
+use type_values::copy_plain;
 use xt_lists::{OutOfMemory, Row};
 use xt_shapes::{Prim, Try};
 
@@ -47,13 +47,6 @@ pub(crate) fn of_hashes(ids: Identifiers) -> Sides
     }
 }
 
-/// What says of which kind the hashes in a collection are: 0xF3 where there are none.
-fn ek_of(complete: bool, plain: bool) -> u8
-    ensures { result ≡ ek_of complete plain }
-{
-    if plain { 0xF3 } else { own_kind(complete) }
-}
-
 #[tactic(auto, using(object_formats::proofs::Views::identifier_rules))]
 fn sequence_in(
     alloc: Global,
@@ -72,16 +65,6 @@ fn sequence_in(
     })
 }
 
-fn copy_dims(alloc: Global, dims: &Row<u32>) -> Result<Row<u32>, OutOfMemory>
-    ensures { IfOk result (λ copy. copy ≡ dims.now) }
-{
-    let mut copy = Row::new(alloc);
-    for size in dims.as_slice() {
-        copy.push(*size)?;
-    }
-    Ok(copy)
-}
-
 #[tactic(auto, using(object_formats::proofs::Views::identifier_rules))]
 fn array_in(
     alloc: Global,
@@ -96,7 +79,7 @@ fn array_in(
     Ok(TypeIdentifier::Array {
         ek,
         flags: try_flags(tc),
-        dims: copy_dims(alloc, dims)?,
+        dims: copy_plain(alloc, dims)?,
         element,
     })
 }

@@ -11,7 +11,7 @@ use object_formats::{ObjectCase, ObjectFlag, ObjectLiteral, ObjectMember, TypeId
 use std::alloc::Global;
 use type_object::PoolFault;
 use type_trees::{Case, Flag, Literal, Member, Name, name_number};
-use type_values::copy_name;
+use type_values::{copy_name, copy_plain};
 use xt_lists::{OutOfMemory, Row};
 
 /// A name in full, or its hash.
@@ -23,19 +23,6 @@ pub(crate) fn name_in(alloc: Global, complete: bool, name: &Name) -> Result<Name
     } else {
         Ok(Name::Hashed(name_number(name)))
     }
-}
-
-/// A copy of the items.
-fn copy_plain<T: Copy>(alloc: Global, items: &Row<T>) -> Result<Row<T>, OutOfMemory>
-where
-    T: Drop,
-    ensures { IfOk result (λ copy. copy ≡ items.now) }
-{
-    let mut copy = Row::new(alloc);
-    for item in items.as_slice() {
-        copy.push(*item)?;
-    }
-    Ok(copy)
 }
 
 pub(crate) fn literal_parts(

@@ -1,5 +1,4 @@
-use Rattle.std.proofs.Common.{◌≡◌, ℕ, ◌+◌, ◌-◌, ◌<◌, zero, suc, sym, ap, ◌∙◌, arith}
-use Rattle.object_formats.specs.Format.{past}
+use Rattle.std.proofs.Common.{◌+◌, ◌-◌, sym, ◌∙◌, arith}
 use Rattle.object_reader.proofs.Numbers.{past_done, past_end, past_zero, past_other}
 use Rattle.object_reader.proofs.reader.Reader.skip.Goals as goal
 

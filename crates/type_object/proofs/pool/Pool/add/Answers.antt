@@ -23,7 +23,7 @@ pub returns-in_ok-expect_object-in-Full-clause-err : goal.returns-in_ok-expect_o
 returns-in_ok-expect_object-in-Full-clause-err c = added_is _ _ c.named-id.result _ c.in_ok-expect_object-in-Full.ensures.ok c.named-id.ensures c.in-Full.ensures
 
 pub returns-in-Free-clause-ok : goal.returns-in-Free-clause-ok
-returns-in-Free-clause-ok c = put_in c.insert.result _ _ c.args.octets.now c.named-id.result c.insert.ensures.ok c.insert.ensures.read c.named-id.ensures c.in-Free.ensures
+returns-in-Free-clause-ok c = put_in c.insert.result _ _ c.args.octets.now c.named-id.result c.insert.ensures.ok c.insert.ensures.read c.named-id.ensures c.in-Free.ensures.0
 
 pub returns-in-Free-clause-err : goal.returns-in-Free-clause-err
 returns-in-Free-clause-err c = not_put c.insert.result c.args.self.now c.args.octets.now c.insert.ensures.err
