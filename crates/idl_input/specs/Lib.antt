@@ -1,3 +1,4 @@
 pub mod Input
 pub mod Cursor
 pub mod Words
+pub mod FaultTexts

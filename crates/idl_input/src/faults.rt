@@ -1,5 +1,8 @@
-ghost use Rattle.std.specs.Prelude.{◌≡◌};
+ghost use Rattle.std.specs.Prelude.{Some};
+ghost use Rattle.idl_input.specs.FaultTexts.{fault_text};
 
+use std::error::Error;
+use std::fmt;
 use type_rules::TypeFault;
 use xt_annotations::Refused;
 use xt_lists::OutOfMemory;
@@ -46,3 +49,22 @@ impl From<Refused> for IdlFault {
         }
     }
 }
+
+/// The place and a word, as `7 syntax`: `syntax`, `unknown`, `twice`, `profile`, or `A` or `V` and the rule's number.
+impl fmt::Display for IdlFault {
+    ghost output = { λ fault. Some (fault_text fault) };
+
+    fn fmt<W: fmt::Write>(&self, f: &mut fmt::Formatter<W>) -> fmt::Result {
+        match self {
+            IdlFault::Syntax { at } => write!(f, "{at} syntax"),
+            IdlFault::Unknown { at } => write!(f, "{at} unknown"),
+            IdlFault::Twice { at } => write!(f, "{at} twice"),
+            IdlFault::NotInProfile { at } => write!(f, "{at} profile"),
+            IdlFault::Annotation { at, rule } => write!(f, "{at} A{rule}"),
+            IdlFault::Invalid { at, fault } => write!(f, "{at} V{}", fault.rule),
+            IdlFault::OutOfMemory => f.write_str("out of memory"),
+        }
+    }
+}
+
+impl Error for IdlFault {}

@@ -7,4 +7,4 @@ mod words;
 
 pub use faults::IdlFault;
 pub use tokens::Tokens;
-pub use words::{Keyword, keyword_of};
+pub use words::{Begins, CollectionWord, DefinitionWord, Keyword, PlainWord, keyword_of};

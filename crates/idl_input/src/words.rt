@@ -27,6 +27,71 @@ pub enum Keyword {
     Outside,
 }
 
+/// A keyword that begins a type that is no collection.
+#[derive(Clone, Copy, Debug)]
+pub enum PlainWord {
+    Simple(Prim),
+    Long,
+    Unsigned,
+    Str,
+}
+
+#[derive(Clone, Copy, Debug)]
+pub enum CollectionWord {
+    Sequence,
+    Map,
+}
+
+#[derive(Clone, Copy, Debug)]
+pub enum DefinitionWord {
+    Struct,
+    Union,
+    Enum,
+    Bitmask,
+    Typedef,
+}
+
+/// What a token begins where a definition or a type may stand, as far as its keyword tells. `Outside` is what isn't in the profile.
+#[derive(Clone, Copy, Debug)]
+pub enum Begins {
+    Module,
+    Definition(DefinitionWord),
+    Plain(PlainWord),
+    Collection(CollectionWord),
+    Outside,
+    Nothing,
+    NoKeyword,
+}
+
+impl Begins {
+    /// What a token begins, by the keyword that it is.
+    #[tactic(auto, unfolding(crate::specs::Words::begins))]
+    pub fn of(keyword: Option<Keyword>) -> Begins
+        ensures { result ≡ spec.begins keyword }
+    {
+        let Some(word) = keyword else {
+            return Begins::NoKeyword;
+        };
+        match word {
+            Keyword::Simple(kind) => Begins::Plain(PlainWord::Simple(kind)),
+            Keyword::Long => Begins::Plain(PlainWord::Long),
+            Keyword::Unsigned => Begins::Plain(PlainWord::Unsigned),
+            Keyword::Str => Begins::Plain(PlainWord::Str),
+            Keyword::Sequence => Begins::Collection(CollectionWord::Sequence),
+            Keyword::Map => Begins::Collection(CollectionWord::Map),
+            Keyword::Module => Begins::Module,
+            Keyword::Struct => Begins::Definition(DefinitionWord::Struct),
+            Keyword::Union => Begins::Definition(DefinitionWord::Union),
+            Keyword::Enum => Begins::Definition(DefinitionWord::Enum),
+            Keyword::Bitmask => Begins::Definition(DefinitionWord::Bitmask),
+            Keyword::Typedef => Begins::Definition(DefinitionWord::Typedef),
+            Keyword::Switch | Keyword::Case | Keyword::Default | Keyword::True | Keyword::False =>
+                Begins::Nothing,
+            Keyword::Outside => Begins::Outside,
+        }
+    }
+}
+
 pub const KEYWORDS: [(&'static [u8], Keyword); 38] = [
     (b"module", Keyword::Module),
     (b"struct", Keyword::Struct),

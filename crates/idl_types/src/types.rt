@@ -8,7 +8,7 @@ ghost use Rattle.idl_types.specs.Types as spec;
 ghost use Rattle.idl_types.specs.Views.{state};
 
 use crate::reader::{Reader, type_by_name};
-use idl_input::{IdlFault, Keyword, Tokens};
+use idl_input::{Begins, CollectionWord, IdlFault, Keyword, PlainWord, Tokens};
 use std::alloc::Global;
 use type_trees::{Elem, MapType, SeqType, XType};
 use xt_annotations::{Note, Placed, Site};
@@ -93,6 +93,7 @@ fn named_type<'a>(tokens: &mut Tokens<'a>, reader: &Reader<'a>) -> Result<XType,
 }
 
 /// A type that is no collection.
+#[tactic(auto, using(type_trees::proofs::Views::tree_rules, crate::proofs::TypeSteps::plain_begins))]
 fn plain_type<'a>(
     tokens: &mut Tokens<'a>,
     reader: &Reader<'a>,
@@ -100,40 +101,28 @@ fn plain_type<'a>(
 ) -> Result<XType, IdlFault>
     ensures { Reads tree (spec.plain_type (state reader.now) keyword tokens.old) result tokens.new }
 {
-    match keyword {
-        None => named_type(tokens, reader),
-        Some(Keyword::Simple(kind)) => {
+    match Begins::of(keyword) {
+        Begins::NoKeyword => named_type(tokens, reader),
+        Begins::Plain(PlainWord::Simple(kind)) => {
             tokens.take();
             Ok(XType::Prim(kind))
         }
-        Some(Keyword::Long) => {
+        Begins::Plain(PlainWord::Long) => {
             tokens.take();
             long_type(tokens)
         }
-        Some(Keyword::Unsigned) => {
+        Begins::Plain(PlainWord::Unsigned) => {
             tokens.take();
             unsigned_type(tokens)
         }
-        Some(Keyword::Str) => {
+        Begins::Plain(PlainWord::Str) => {
             tokens.take();
             string_type(tokens)
         }
-        Some(Keyword::Outside) => Err(IdlFault::NotInProfile { at: tokens.place() }),
-        Some(
-            Keyword::Sequence
-            | Keyword::Map
-            | Keyword::Module
-            | Keyword::Struct
-            | Keyword::Union
-            | Keyword::Enum
-            | Keyword::Bitmask
-            | Keyword::Typedef
-            | Keyword::Switch
-            | Keyword::Case
-            | Keyword::Default
-            | Keyword::True
-            | Keyword::False,
-        ) => Err(tokens.syntax()),
+        Begins::Outside => Err(IdlFault::NotInProfile { at: tokens.place() }),
+        Begins::Module | Begins::Definition(_) | Begins::Collection(_) | Begins::Nothing => {
+            Err(tokens.syntax())
+        }
     }
 }
 
@@ -211,40 +200,27 @@ fn type_to<'a>(
     ensures { Reads tree (spec.type_to (state reader.now) levels tokens.old) result tokens.new }
 {
     let keyword = tokens.keyword();
-    match keyword {
-        Some(Keyword::Sequence) => {
+    match Begins::of(keyword) {
+        Begins::Collection(CollectionWord::Sequence) => {
             if levels == 0 {
                 deep_type(tokens, reader)
             } else {
                 sequence_type(tokens, reader, levels - 1)
             }
         }
-        Some(Keyword::Map) => {
+        Begins::Collection(CollectionWord::Map) => {
             if levels == 0 {
                 deep_type(tokens, reader)
             } else {
                 map_type(tokens, reader, levels - 1)
             }
         }
-        None
-        | Some(
-            Keyword::Simple(_)
-            | Keyword::Long
-            | Keyword::Unsigned
-            | Keyword::Str
-            | Keyword::Outside
-            | Keyword::Module
-            | Keyword::Struct
-            | Keyword::Union
-            | Keyword::Enum
-            | Keyword::Bitmask
-            | Keyword::Typedef
-            | Keyword::Switch
-            | Keyword::Case
-            | Keyword::Default
-            | Keyword::True
-            | Keyword::False,
-        ) => plain_type(tokens, reader, keyword),
+        Begins::Module
+        | Begins::Definition(_)
+        | Begins::Plain(_)
+        | Begins::Outside
+        | Begins::Nothing
+        | Begins::NoKeyword => plain_type(tokens, reader, keyword),
     }
 }
 
@@ -288,7 +264,7 @@ fn close(tokens: &mut Tokens<'_>, alloc: Global, open: &mut Row<Open>) -> Result
 }
 
 /// Passes the type that is due, or the beginning of one in it. Whether all is closed.
-#[tactic(auto, using(crate::proofs::TypeSteps::reverse_push, crate::proofs::TypeSteps::due_plain))]
+#[tactic(auto, using(crate::proofs::TypeSteps::reverse_push, crate::proofs::TypeSteps::due_begins))]
 fn step<'a>(
     tokens: &mut Tokens<'a>,
     reader: &Reader<'a>,
@@ -298,36 +274,23 @@ fn step<'a>(
         → spec.Continues due (spec.due_by due (state reader.now) (reverse open.old) (keyword_at tokens.old) tokens.old) result (reverse open.new) tokens.new }
 {
     let keyword = tokens.keyword();
-    match keyword {
-        Some(Keyword::Sequence) => {
+    match Begins::of(keyword) {
+        Begins::Collection(CollectionWord::Sequence) => {
             begin(tokens, reader.alloc())?;
             open.push(Open::Element)?;
             Ok(false)
         }
-        Some(Keyword::Map) => {
+        Begins::Collection(CollectionWord::Map) => {
             begin(tokens, reader.alloc())?;
             open.push(Open::Key)?;
             Ok(false)
         }
-        None
-        | Some(
-            Keyword::Simple(_)
-            | Keyword::Long
-            | Keyword::Unsigned
-            | Keyword::Str
-            | Keyword::Outside
-            | Keyword::Module
-            | Keyword::Struct
-            | Keyword::Union
-            | Keyword::Enum
-            | Keyword::Bitmask
-            | Keyword::Typedef
-            | Keyword::Switch
-            | Keyword::Case
-            | Keyword::Default
-            | Keyword::True
-            | Keyword::False,
-        ) => {
+        Begins::Module
+        | Begins::Definition(_)
+        | Begins::Plain(_)
+        | Begins::Outside
+        | Begins::Nothing
+        | Begins::NoKeyword => {
             plain_type(tokens, reader, keyword)?;
             close(tokens, reader.alloc(), open)
         }

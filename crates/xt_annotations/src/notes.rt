@@ -1,5 +1,6 @@
 ghost use Rattle.std.specs.Prelude.{◌≡◌};
 
+use thiserror::Error;
 use xt_lists::{OutOfMemory, Text};
 use xt_shapes::{Ext, Try};
 
@@ -53,9 +54,11 @@ pub struct Refused {
 }
 
 /// Why no annotation was read.
-#[derive(Debug, Drop)]
+#[derive(Debug, Drop, Error)]
 pub enum NoteFault {
+    #[error("{} A{}", .0.at, .0.rule)]
     Refused(Refused),
+    #[error("out of memory")]
     OutOfMemory,
 }
 

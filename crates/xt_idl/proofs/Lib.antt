@@ -1,1 +1,2 @@
 mod TextLoops
+pub mod Beginnings

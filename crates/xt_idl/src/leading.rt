@@ -2,7 +2,7 @@ ghost use Rattle.std.specs.Prelude.{◌≡◌};
 ghost use Rattle.idl_input.specs.Input.{Reads};
 ghost use Rattle.xt_idl.specs.Leading as spec;
 
-use idl_input::{IdlFault, Keyword, Tokens};
+use idl_input::{Begins, DefinitionWord, IdlFault, Keyword, Tokens};
 use std::alloc::Global;
 use xt_annotations::{Placed, Site, first_refused};
 use xt_lists::Row;
@@ -39,31 +39,22 @@ fn leading(tokens: &mut Tokens<'_>, alloc: Global) -> Result<Row<Placed>, IdlFau
     Ok(before)
 }
 
+#[tactic(auto, using(crate::proofs::Beginnings::site_begins))]
 fn site_of(keyword: Option<Keyword>) -> Site
     ensures { result ≡ spec.site_of keyword }
 {
-    match keyword {
-        Some(Keyword::Struct) => Site::Structure,
-        Some(Keyword::Union) => Site::Union,
-        Some(Keyword::Enum) => Site::Enumeration,
-        Some(Keyword::Bitmask) => Site::Bitmask,
-        Some(Keyword::Typedef) => Site::Other,
-        Some(Keyword::Module) => Site::Other,
-        None
-        | Some(
-            Keyword::Simple(_)
-            | Keyword::Long
-            | Keyword::Unsigned
-            | Keyword::Str
-            | Keyword::Sequence
-            | Keyword::Map
-            | Keyword::Switch
-            | Keyword::Case
-            | Keyword::Default
-            | Keyword::True
-            | Keyword::False
-            | Keyword::Outside,
-        ) => Site::AnyDefinition,
+    match Begins::of(keyword) {
+        Begins::Definition(DefinitionWord::Struct) => Site::Structure,
+        Begins::Definition(DefinitionWord::Union) => Site::Union,
+        Begins::Definition(DefinitionWord::Enum) => Site::Enumeration,
+        Begins::Definition(DefinitionWord::Bitmask) => Site::Bitmask,
+        Begins::Definition(DefinitionWord::Typedef) => Site::Other,
+        Begins::Module => Site::Other,
+        Begins::Plain(_)
+        | Begins::Collection(_)
+        | Begins::Outside
+        | Begins::Nothing
+        | Begins::NoKeyword => Site::AnyDefinition,
     }
 }
 

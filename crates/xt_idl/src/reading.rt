@@ -11,7 +11,7 @@ use crate::leading::leading_notes;
 use idl_definitions::{
     Made, bitmask_def, enum_def, settings_of, struct_def, typedef_def, union_def,
 };
-use idl_input::{IdlFault, Keyword, Tokens};
+use idl_input::{Begins, DefinitionWord, IdlFault, Keyword, Tokens};
 use idl_names::Meaning;
 use idl_tokens::TokenKind;
 use idl_types::Reader;
@@ -21,6 +21,7 @@ use type_trees::{Named, Path};
 use xt_annotations::Placed;
 use xt_lists::Row;
 
+#[tactic(auto, using(crate::proofs::Beginnings::definition_begins))]
 fn definition_by<'a>(
     tokens: &mut Tokens<'a>,
     reader: &Reader<'a>,
@@ -29,28 +30,26 @@ fn definition_by<'a>(
 ) -> Result<Made<'a>, IdlFault>
     ensures { Reads made (spec.definition_by (state reader.now) notes.now keyword tokens.old) result tokens.new }
 {
-    match keyword {
-        Some(Keyword::Struct) => struct_def(tokens, reader, settings_of(notes)),
-        Some(Keyword::Union) => union_def(tokens, reader, settings_of(notes)),
-        Some(Keyword::Enum) => enum_def(tokens, reader, settings_of(notes)),
-        Some(Keyword::Bitmask) => bitmask_def(tokens, reader, settings_of(notes)),
-        Some(Keyword::Typedef) => typedef_def(tokens, reader),
-        Some(Keyword::Outside) => Err(IdlFault::NotInProfile { at: tokens.place() }),
-        None
-        | Some(
-            Keyword::Simple(_)
-            | Keyword::Long
-            | Keyword::Unsigned
-            | Keyword::Str
-            | Keyword::Sequence
-            | Keyword::Map
-            | Keyword::Module
-            | Keyword::Switch
-            | Keyword::Case
-            | Keyword::Default
-            | Keyword::True
-            | Keyword::False,
-        ) => Err(tokens.syntax()),
+    match Begins::of(keyword) {
+        Begins::Definition(DefinitionWord::Struct) => struct_def(
+            tokens,
+            reader,
+            settings_of(notes),
+        ),
+        Begins::Definition(DefinitionWord::Union) => union_def(tokens, reader, settings_of(notes)),
+        Begins::Definition(DefinitionWord::Enum) => enum_def(tokens, reader, settings_of(notes)),
+        Begins::Definition(DefinitionWord::Bitmask) => bitmask_def(
+            tokens,
+            reader,
+            settings_of(notes),
+        ),
+        Begins::Definition(DefinitionWord::Typedef) => typedef_def(tokens, reader),
+        Begins::Outside => Err(IdlFault::NotInProfile { at: tokens.place() }),
+        Begins::Module
+        | Begins::Plain(_)
+        | Begins::Collection(_)
+        | Begins::Nothing
+        | Begins::NoKeyword => Err(tokens.syntax()),
     }
 }
 
@@ -125,6 +124,7 @@ fn module_def<'a>(tokens: &mut Tokens<'a>, reader: &mut Reader<'a>) -> Result<()
     }
 }
 
+#[tactic(auto, using(crate::proofs::Beginnings::item_begins))]
 fn definition_or_module<'a>(
     tokens: &mut Tokens<'a>,
     reader: &mut Reader<'a>,
@@ -133,28 +133,14 @@ fn definition_or_module<'a>(
 ) -> Result<(), IdlFault>
     ensures { Leads (spec.definition_or_module (state reader.old) notes.now keyword tokens.old) result (state reader.new) tokens.new }
 {
-    match keyword {
-        Some(Keyword::Module) => module_def(tokens, reader),
-        None
-        | Some(
-            Keyword::Simple(_)
-            | Keyword::Long
-            | Keyword::Unsigned
-            | Keyword::Str
-            | Keyword::Sequence
-            | Keyword::Map
-            | Keyword::Struct
-            | Keyword::Union
-            | Keyword::Enum
-            | Keyword::Bitmask
-            | Keyword::Typedef
-            | Keyword::Switch
-            | Keyword::Case
-            | Keyword::Default
-            | Keyword::True
-            | Keyword::False
-            | Keyword::Outside,
-        ) => typed(tokens, reader, notes),
+    match Begins::of(keyword) {
+        Begins::Module => module_def(tokens, reader),
+        Begins::Definition(_)
+        | Begins::Plain(_)
+        | Begins::Collection(_)
+        | Begins::Outside
+        | Begins::Nothing
+        | Begins::NoKeyword => typed(tokens, reader, notes),
     }
 }
 
