@@ -6,10 +6,11 @@ use Rattle.std.specs.Prelude.{None, Some}
 use Rattle.std.specs.Str.{bytes_eq}
 use Rattle.std.proofs.lemmas.Slice.Eq.{bytes_eq-Decides}
 use Rattle.type_trees.specs.declared.types.HashId.{HashId}
+use Rattle.type_trees.specs.Ids.{same_id}
 use Rattle.cell_core.specs.declared.event.Event.{Event}
 use Rattle.cell_core.specs.declared.event.Event.TheVariants.{Set, Get}
 use Rattle.cell_core.specs.Probes.{Place, probes}
-use Rattle.cell_core.specs.Cells.{Held, Cells, is_at, same_id, either, cells, Stays, met, met_full, first_with, FoundStays, Reaches, IsLawful, AreLawful}
+use Rattle.cell_core.specs.Cells.{Held, Cells, is_at, either, cells, Stays, met, met_full, first_with, FoundStays, Reaches, IsLawful, AreLawful}
 
 -- no full cell changes
 pub cells_more : (events more : List Event) → Stays (cells events) (cells (events ++ more))

@@ -2,9 +2,10 @@
 use Rattle.std.proofs.Common.{◌≡◌, ℕ, suc, ◌≤◌, List, [], ◌∷◌, Bool, true, false, Option, inl, inr, refl, sym, ap, subst, ◌∙◌, take, arith}
 use Rattle.std.specs.Prelude.{None, Some}
 use Rattle.type_trees.specs.declared.types.HashId.{HashId}
+use Rattle.type_trees.specs.Ids.{same_id}
 use Rattle.cell_core.specs.declared.event.Event.{Event}
 use Rattle.cell_core.specs.Probes.{Place, probes}
-use Rattle.cell_core.specs.Cells.{Held, same_id, cells, met, met_full, first_with, AreLawful}
+use Rattle.cell_core.specs.Cells.{Held, cells, met, met_full, first_with, AreLawful}
 use Rattle.cell_core.specs.Finds.{Choose, Shows, FindsOver, Finds}
 use Rattle.cell_core.proofs.CellSteps.{cells_take, cells_of_take, same_id_tells, same_held, one_cell}
 

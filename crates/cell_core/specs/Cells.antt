@@ -2,6 +2,7 @@
 use Rattle.std.specs.Prelude.{◌≡◌, ◌≢◌, ℕ, ◌<◌, List, [], ◌∷◌, ◌++◌, Bool, true, false, ◌&&◌, nat_eq, Option, None, Some, ◌⊎◌}
 use Rattle.std.specs.Str.{bytes_eq}
 use Rattle.type_trees.specs.declared.types.HashId.{HashId}
+use Rattle.type_trees.specs.Ids.{same_id}
 use Rattle.cell_core.specs.declared.event.Event.{Event}
 use Rattle.cell_core.specs.declared.event.Event.TheVariants.{Set, Get}
 use Rattle.cell_core.specs.declared.event.Reply.{Reply}
@@ -18,9 +19,6 @@ Cells = Place → Option Held
 
 abbrev pub is_at : Place → Place → Bool
 is_at p q = nat_eq p.0 q.0 && nat_eq p.1 q.1
-
-abbrev pub same_id : HashId → HashId → Bool
-same_id a b = nat_eq a.kind b.kind && bytes_eq a.hash b.hash
 
 abbrev pub either : Bool → Option Held → Option Held → Option Held
 either true x y = x

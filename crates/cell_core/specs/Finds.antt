@@ -1,10 +1,11 @@
 -- A find in a list of events: gets of an identifier's probed cells in order, among which other events may stand.
 use Rattle.std.specs.Prelude.{◌≡◌, ℕ, suc, ◌≤◌, List, [], ◌∷◌, Bool, true, false, Option, None, Some, take, slice_get}
 use Rattle.type_trees.specs.declared.types.HashId.{HashId}
+use Rattle.type_trees.specs.Ids.{same_id}
 use Rattle.cell_core.specs.declared.event.Event.{Event}
 use Rattle.cell_core.specs.declared.event.Event.TheVariants.{Get}
 use Rattle.cell_core.specs.Probes.{Place, probes}
-use Rattle.cell_core.specs.Cells.{Held, cells, same_id}
+use Rattle.cell_core.specs.Cells.{Held, cells}
 
 abbrev pub Choose : Bool → Type 0 → Type 0 → Type 0
 Choose true P Q = P

@@ -3,3 +3,4 @@ pub mod Payloads
 pub mod ListSpelling
 pub mod Reread
 pub mod Limits
+pub mod Long

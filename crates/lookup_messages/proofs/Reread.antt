@@ -13,8 +13,9 @@ use Rattle.lookup_messages.specs.declared.messages.Operation.{Operation}
 use Rattle.lookup_messages.specs.declared.messages.Operation.TheVariants as operation
 use Rattle.lookup_messages.specs.declared.messages.Message.{Message}
 use Rattle.lookup_messages.specs.declared.messages.Message.TheVariants.{GetTypes, GetTypeDependencies, PutTypes, Types, Dependencies, Put}
-use Rattle.lookup_messages.specs.Fields.{Field, got, then_read, number_at, at_most, text_at, is_kind, id_at, object_at, fetched_at, needed_at, outcome_at, point_at, put_first, times, counted_at, number_of, operation_of, known_operation, operation_at, body_at, message_at, alone, payload}
-use Rattle.lookup_messages.specs.Spelling.{number_octets, id_octets, object_octets, fetched_octets, needed_octets, point_octets, all_octets, counted_octets, head_octets, payload_of, IsKnownId, IsObject, IsFetched, IsNeeded, IsPoint, HasHash, IsFetchedInRange, IsNeededInRange, KeepsLimits, InRange}
+use Rattle.lookup_messages.specs.Fields.{Field, got, then_read, number_at, at_most, text_at, id_at, object_at, fetched_at, needed_at, outcome_at, point_at, put_first, times, counted_at, number_of, operation_of, known_operation, operation_at, body_at, message_at, alone, payload}
+use Rattle.lookup_messages.specs.Spelling.{number_octets, object_octets, fetched_octets, needed_octets, point_octets, all_octets, counted_octets, head_octets, payload_of, IsKnownId, HasObjectLength, IsFetched, IsNeeded, IsPoint, HasHash, IsFetchedInRange, IsNeededInRange, KeepsLimits, InRange}
+use Rattle.type_trees.specs.Ids.{is_object_kind, id_octets}
 
 number-length : (n : ℕ) → length (number_octets n) ≡ 4
 number-length n = refl
@@ -66,7 +67,7 @@ counted-back read spell P back xs rest le h =
     ∙ ap (λ f. then_read f (times read)) (most-back 1024 (length xs) (all_octets spell xs ++ rest) le (omega arith))
     ∙ times-back read spell P back xs rest h
 
-id-read : (kind : ℕ) (hash rest : List ℕ) → length hash ≡ 14 → is_kind kind ≡ true → id_at (kind ∷ (hash ++ rest)) ≡ got (record { kind = kind; hash = hash }) rest
+id-read : (kind : ℕ) (hash rest : List ℕ) → length hash ≡ 14 → is_object_kind kind ≡ true → id_at (kind ∷ (hash ++ rest)) ≡ got (record { kind = kind; hash = hash }) rest
 id-read kind hash rest e known =
     let long : 14 ≤ length (hash ++ rest) = omega (arith, length-append hash rest) in
     let first : take 14 (hash ++ rest) ≡ hash = take_at hash rest 14 e in
@@ -74,7 +75,7 @@ id-read kind hash rest e known =
     let full : id_at (kind ∷ (hash ++ rest)) ≡ got (record { kind = kind; hash = take 14 (hash ++ rest) }) (drop 14 (hash ++ rest)) = grind (arith, common_steps, long, known) in
     full ∙ ap (λ h. got (record { kind = kind; hash = h }) (drop 14 (hash ++ rest))) first ∙ ap (got (record { kind = kind; hash = hash })) behind
 
-pub id-back : (id : HashId) (rest : List ℕ) → length id.hash ≡ 14 → is_kind id.kind ≡ true → id_at (id_octets id ++ rest) ≡ got id rest
+pub id-back : (id : HashId) (rest : List ℕ) → length id.hash ≡ 14 → is_object_kind id.kind ≡ true → id_at (id_octets id ++ rest) ≡ got id rest
 id-back id rest e known = id-read id.kind id.hash rest e known
 
 pub fetched-back : (fetched : Fetched) (rest : List ℕ) → (IsFetched fetched) × IsFetchedInRange fetched → fetched_at (fetched_octets fetched ++ rest) ≡ got fetched rest
@@ -155,7 +156,7 @@ message_back (GetTypeDependencies tag ids point) k r =
     ∙ ap (λ f. then_read f (λ xs rest. then_read (point_at rest) (λ p end. got (GetTypeDependencies tag xs p) end))) all
     ∙ ap (λ f. then_read f (λ p end. got (GetTypeDependencies tag ids p) end)) (point-back point k.1))
 message_back (PutTypes tag objects) k r =
-    let all = counted-back object_at object_octets IsObject (λ o rest h. object-back o rest h) objects [] k.count k.each in
+    let all = counted-back object_at object_octets HasObjectLength (λ o rest h. object-back o rest h) objects [] k.count k.each in
     ap alone (request-back operation.PutTypes tag (counted_octets object_octets objects) r
     ∙ ap (λ f. then_read f (λ xs rest. got (PutTypes tag xs) rest)) (whole (counted_at object_at) (counted_octets object_octets) objects all))
 message_back (Types tag objects) k r =

@@ -2,6 +2,7 @@
 use Rattle.std.specs.Prelude.{◌≡◌, ℕ, zero, suc, ◌||◌, ◌==◌, nat_lt, if◌then◌else◌, Bool, true, false, List, [], ◌∷◌, ◌++◌, length, take, drop, slice_index, Option, Some, None, Result, Ok, Err}
 use Rattle.std.specs.Int.{w32, from_le_bytes}
 use Rattle.type_trees.specs.declared.types.HashId.{HashId}
+use Rattle.type_trees.specs.Ids.{is_object_kind}
 use Rattle.lookup_messages.specs.declared.messages.Fetched.{Fetched}
 use Rattle.lookup_messages.specs.declared.messages.Needed.{Needed}
 use Rattle.lookup_messages.specs.declared.messages.Operation.{Operation}
@@ -36,15 +37,11 @@ at_most most octets = then_read (number_at octets) (λ n rest. if nat_lt most n 
 abbrev pub text_at : ℕ → List ℕ → Field (List ℕ)
 text_at n octets = if nat_lt (length octets) n then bad (length octets) else got (take n octets) (drop n octets)
 
--- the kind of an identifier
-abbrev pub is_kind : ℕ → Bool
-is_kind kind = kind == 241 || kind == 242
-
 abbrev pub id_of : List ℕ → HashId
 id_of octets = record { kind = slice_index octets 0; hash = take 14 (drop 1 octets) }
 
 abbrev pub id_at : List ℕ → Field HashId
-id_at octets = if nat_lt (length octets) 15 then bad (length octets) else if is_kind (slice_index octets 0) then got (id_of octets) (drop 15 octets) else bad (length octets)
+id_at octets = if nat_lt (length octets) 15 then bad (length octets) else if is_object_kind (slice_index octets 0) then got (id_of octets) (drop 15 octets) else bad (length octets)
 
 -- an object and its length
 abbrev pub object_at : List ℕ → Field (List ℕ)

@@ -1,5 +1,5 @@
 -- The one spelling of a message as a payload, and of a payload as a frame.
-use Rattle.std.specs.Prelude.{◌≡◌, ℕ, ◌≤◌, ◌<◌, ◌^◌, ◌⊎◌, true, List, [], ◌∷◌, ◌++◌, length}
+use Rattle.std.specs.Prelude.{◌≡◌, ℕ, ◌≤◌, ◌<◌, ◌^◌, ◌⊎◌, true, List, [], ◌∷◌, ◌++◌, length, slice_index}
 use Rattle.std.specs.List.{All}
 use Rattle.std.specs.Int.{w32, to_le_bytes, to_be_bytes}
 use Rattle.type_trees.specs.declared.types.HashId.{HashId}
@@ -9,13 +9,11 @@ use Rattle.lookup_messages.specs.declared.messages.Operation.{Operation}
 use Rattle.lookup_messages.specs.declared.messages.Operation.TheVariants as operation
 use Rattle.lookup_messages.specs.declared.messages.Message.{Message}
 use Rattle.lookup_messages.specs.declared.messages.Message.TheVariants.{GetTypes, GetTypeDependencies, PutTypes, Types, Dependencies, Put}
-use Rattle.lookup_messages.specs.Fields.{number_of, is_kind}
+use Rattle.lookup_messages.specs.Fields.{number_of, payload, got}
+use Rattle.type_trees.specs.Ids.{is_object_kind, id_octets}
 
 abbrev pub number_octets : ℕ → List ℕ
 number_octets n = to_le_bytes w32 n
-
-abbrev pub id_octets : HashId → List ℕ
-id_octets id = id.kind ∷ id.hash
 
 -- a length, and so many octets
 abbrev pub object_octets : List ℕ → List ℕ
@@ -55,13 +53,14 @@ frame_of message = to_be_bytes w32 (length (payload_of message)) ++ payload_of m
 -- ---- the limits and the rules on fields
 
 abbrev pub IsKnownId : HashId → Type 0
-IsKnownId id = is_kind id.kind ≡ true
+IsKnownId id = is_object_kind id.kind ≡ true
 
-abbrev pub IsObject : List ℕ → Type 0
-IsObject object = length object ≤ 131072
+-- as long as an object's text may be
+abbrev pub HasObjectLength : List ℕ → Type 0
+HasObjectLength object = length object ≤ 131072
 
 abbrev pub IsFetched : Fetched → Type 0
-IsFetched fetched = IsKnownId fetched.id × IsObject fetched.octets
+IsFetched fetched = IsKnownId fetched.id × HasObjectLength fetched.octets
 
 abbrev pub IsNeeded : Needed → Type 0
 IsNeeded needed = IsKnownId needed.id
@@ -77,7 +76,7 @@ pub record Keeps {T : Type 0} (P : T → Type 0) (items : List T) : Type 0 where
 abbrev pub KeepsLimits : Message → Type 0
 KeepsLimits (GetTypes tag ids) = Keeps IsKnownId ids
 KeepsLimits (GetTypeDependencies tag ids point) = Keeps IsKnownId ids × IsPoint point
-KeepsLimits (PutTypes tag objects) = Keeps IsObject objects
+KeepsLimits (PutTypes tag objects) = Keeps HasObjectLength objects
 KeepsLimits (Types tag objects) = Keeps IsFetched objects
 KeepsLimits (Dependencies tag needed point) = Keeps IsNeeded needed × IsPoint point
 KeepsLimits (Put tag outcomes) = Keeps (λ outcome. outcome ≤ 4) outcomes
@@ -87,7 +86,10 @@ pub record HasFrame (message : Message) : Type 0 where
   pub limits : KeepsLimits message
   pub fits : length (payload_of message) ≤ 262144
 
--- ---- what holds of each value of these types: numbers have 32 bits, and hashes 14 octets
+-- ---- what holds of each value of these types: octets have 8 bits, numbers 32, and hashes 14 octets
+
+abbrev pub AreOctets : List ℕ → Type 0
+AreOctets octets = (i : ℕ) → slice_index octets i < 256
 
 abbrev pub HasHash : HashId → Type 0
 HasHash id = length id.hash ≡ 14
@@ -105,3 +107,9 @@ InRange (PutTypes tag objects) = tag < 2 ^ 32
 InRange (Types tag objects) = (tag < 2 ^ 32) × All IsFetchedInRange objects
 InRange (Dependencies tag needed point) = (tag < 2 ^ 32) × All IsNeededInRange needed
 InRange (Put tag outcomes) = tag < 2 ^ 32
+
+-- ---- the law
+
+-- What reads as a message is spelled as it.
+abbrev pub IsSpelled : Type 0
+IsSpelled = (octets rest : List ℕ) (message : Message) → AreOctets octets → payload octets ≡ got message rest → KeepsLimits message × (octets ≡ payload_of message)

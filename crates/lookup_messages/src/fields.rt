@@ -6,6 +6,7 @@ ghost use Rattle.lookup_messages.specs.Fields.{Reads, octet_at, number_at, at_mo
 
 use crate::items::Item;
 use crate::messages::{Message, Operation, PayloadFault};
+use byteorder::{ByteOrder, LittleEndian};
 use std::alloc::Global;
 use type_trees::HashId;
 use xt_lists::{Row, Text};
@@ -61,7 +62,7 @@ impl<'a> Fields<'a> {
             return self.bad();
         };
         self.rest = rest;
-        Ok(u32::from_le_bytes([front[0], front[1], front[2], front[3]]))
+        Ok(LittleEndian::read_u32(front))
     }
 
     pub(crate) fn at_most(&mut self, most: u32) -> Result<u32, PayloadFault>
@@ -255,9 +256,9 @@ fn operation_of(number: u32) -> Option<Operation>
 pub fn read_payload(alloc: Global, octets: &[u8]) -> Result<Message, PayloadFault>
     ensures read { Reads (payload octets.now) result [] }
 
-    // A message that is read keeps the limits, and its spelling is as long as the payload.
+    // A message that is read keeps the limits, and the payload is its spelling.
     ensures limits { IfOk result KeepsLimits }
-    ensures long { IfOk result (λ message. length (payload_of message) ≡ length octets.now) }
+    ensures spelled { IfOk result (λ message. octets.now ≡ payload_of message) }
 {
     let mut fields = Fields::new(octets);
     let message = fields.message(alloc)?;

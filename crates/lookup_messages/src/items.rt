@@ -1,7 +1,8 @@
 //! What messages have lists of: identifiers, objects, and entries with both.
-ghost use Rattle.std.specs.Prelude.{◌≡◌, ◌++◌, ℕ, List, OnOk};
+ghost use Rattle.std.specs.Prelude.{◌≡◌, ◌≤◌, ◌++◌, ℕ, List, length, OnOk};
 ghost use Rattle.lookup_messages.specs.Fields.{Field, Reads, id_at, object_at, fetched_at, needed_at};
-ghost use Rattle.lookup_messages.specs.Spelling.{id_octets, object_octets, fetched_octets, needed_octets, IsKnownId, IsObject, IsFetched, IsNeeded, HasHash, IsFetchedInRange, IsNeededInRange};
+ghost use Rattle.lookup_messages.specs.Spelling.{object_octets, fetched_octets, needed_octets, IsKnownId, HasObjectLength, IsFetched, IsNeeded, HasHash, IsFetchedInRange, IsNeededInRange};
+ghost use Rattle.type_trees.specs.Ids.{id_octets};
 
 use crate::fields::Fields;
 use crate::messages::{Fetched, Needed, PayloadFault};
@@ -31,6 +32,12 @@ pub(crate) trait Item: Drop {
         requires { keeps self.now }
         ensures spelled { OnOk result (text.new ≡ text.old ++ octets self.now) }
         ensures range { OnOk result (in_range self.now) };
+
+    /// How many octets it is spelled in.
+    fn size(&self) -> u64
+        requires { keeps self.now }
+        ensures exact { result ≡ length (octets self.now) }
+        ensures most { result ≤ 131091 };
 }
 
 impl Item for HashId {
@@ -50,6 +57,19 @@ impl Item for HashId {
         text.push(self.kind)?;
         text.append(&self.hash)
     }
+
+    fn size(&self) -> u64 {
+        id_size(self)
+    }
+}
+
+/// The octets of an identifier.
+fn id_size(id: &HashId) -> u64
+    ensures exact { result ≡ length (id_octets id.now) }
+    ensures most { result ≤ 15 }
+{
+    let hash: &[u8] = &id.hash;
+    1 + hash.len() as u64
 }
 
 impl Item for Text {
@@ -59,7 +79,7 @@ impl Item for Text {
 
     ghost octets = { λ object. object_octets object };
 
-    ghost keeps = { λ object. IsObject object };
+    ghost keeps = { λ object. HasObjectLength object };
 
     ghost in_range = { λ _. ⊤ };
 
@@ -70,6 +90,19 @@ impl Item for Text {
     fn put(&self, text: &mut Text) -> Result<(), OutOfMemory> {
         put_object(text, self)
     }
+
+    fn size(&self) -> u64 {
+        object_size(self)
+    }
+}
+
+/// The octets of a length and an object.
+fn object_size(object: &Text) -> u64
+    requires { HasObjectLength object.now }
+    ensures exact { result ≡ length (object_octets object.now) }
+    ensures most { result ≤ 131076 }
+{
+    4 + object.len() as u64
 }
 
 impl Item for Fetched {
@@ -91,6 +124,10 @@ impl Item for Fetched {
         self.id.put(text)?;
         put_object(text, &self.octets)
     }
+
+    fn size(&self) -> u64 {
+        id_size(&self.id) + object_size(&self.octets)
+    }
 }
 
 impl Item for Needed {
@@ -111,5 +148,9 @@ impl Item for Needed {
     fn put(&self, text: &mut Text) -> Result<(), OutOfMemory> {
         self.id.put(text)?;
         put_number(text, self.size)
+    }
+
+    fn size(&self) -> u64 {
+        id_size(&self.id) + 4
     }
 }

@@ -4,9 +4,13 @@
 
 mod fields;
 mod items;
+mod laws;
 mod messages;
+mod sizes;
 mod spelling;
 
 pub use fields::{GET_TYPE_DEPENDENCIES, GET_TYPES, PUT_TYPES, read_payload};
+pub use laws::payloads_are_spellings;
 pub use messages::{Fetched, Message, Needed, Operation, PayloadFault};
+pub use sizes::payload_size;
 pub use spelling::spell;

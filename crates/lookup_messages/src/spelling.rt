@@ -7,6 +7,7 @@ ghost use Rattle.lookup_messages.specs.Spelling.{number_octets, object_octets, p
 use crate::fields::{GET_TYPE_DEPENDENCIES, GET_TYPES, PUT_TYPES};
 use crate::items::Item;
 use crate::messages::{Message, Operation};
+use byteorder::{ByteOrder, LittleEndian};
 use std::alloc::Global;
 use xt_lists::{OutOfMemory, Row, Text};
 
@@ -14,7 +15,9 @@ pub(crate) fn put_number(text: &mut Text, number: u32) -> Result<(), OutOfMemory
     ensures spelled { OnOk result (text.new ≡ text.old ++ number_octets number) }
     ensures range { number < 2 ^ 32 }
 {
-    text.append(&number.to_le_bytes())
+    let mut octets = [0; 4];
+    LittleEndian::write_u32(&mut octets, number);
+    text.append(&octets)
 }
 
 pub(crate) fn put_object(text: &mut Text, object: &Text) -> Result<(), OutOfMemory>

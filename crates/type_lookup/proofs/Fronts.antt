@@ -1,11 +1,13 @@
 -- From the octets that were read to the frame at their front.
-use Rattle.std.proofs.Common.{◌≡◌, ◌≢◌, ℕ, ◌≤◌, ◌<◌, List, [], ◌∷◌, ◌++◌, sym, ap, ◌∙◌, length, take, drop, append-nil, length-append, arith}
+use Rattle.std.proofs.Common.{◌≡◌, ◌≢◌, ℕ, ◌≤◌, ◌<◌, List, [], ◌∷◌, ◌++◌, sym, ap, ◌∙◌, length, take, drop, append-nil, length-append, arith, Option, Err}
 use Rattle.std.proofs.lemmas.List.{take_at, drop_at}
 use Rattle.std.proofs.lemmas.Grind.{common_steps}
 use Rattle.std.specs.Int.{w32, from_be_bytes}
-use Rattle.type_lookup.specs.declared.faults.FrameFault.TheVariants.{Truncated, TooLong, BadMessage}
+use Rattle.type_lookup.specs.declared.faults.FrameFault.{FrameFault}
+use Rattle.type_lookup.specs.declared.faults.FrameFault.TheVariants.{LinkFault, Truncated, TooLong, BadMessage, OutOfMemory}
 use Rattle.lookup_messages.specs.Fields.{payload}
-use Rattle.type_lookup.specs.Frames.{broken, filled, sized, lengthy, front}
+use Rattle.type_lookup.specs.Causes.{IsOutside}
+use Rattle.type_lookup.specs.Frames.{Answers, broken, filled, sized, lengthy, front}
 
 pub front-cut : (octets : List ℕ) → 0 < length octets → length octets < 4 → front octets ≡ broken Truncated
 unfolding front
@@ -56,3 +58,11 @@ pub front-filled : (head tail : List ℕ) (n : ℕ) → length head ≡ 4 → n 
 front-filled head tail n four e some le full =
     front-head head tail four ∙ ap (λ k. sized k tail) (sym e) ∙ sized-filled n tail some le full
     ∙ ap (λ t. filled n (payload t) (drop n tail)) (take-whole n tail full) ∙ ap (filled n (payload tail)) (drop-whole n tail full)
+
+-- after a fault of the link or of the memory nothing is said of what was read
+pub outside-answers : (octets : List ℕ) (left : Option (List ℕ)) (fault : FrameFault) → IsOutside fault → Answers octets left (Err fault)
+outside-answers octets left LinkFault outside = tt
+outside-answers octets left OutOfMemory outside = tt
+outside-answers octets left Truncated outside = absurd outside
+outside-answers octets left (TooLong n) outside = absurd outside
+outside-answers octets left (BadMessage at) outside = absurd outside

@@ -3,3 +3,4 @@ pub mod Fronts
 pub mod Following
 pub mod Streams
 pub mod Reframed
+pub mod Sequences

@@ -9,10 +9,10 @@ use Rattle.type_lookup.specs.declared.faults.FrameFault.{FrameFault}
 use Rattle.type_lookup.specs.Frames.{Front, no_frame, framed, broken, filled, sized, lengthy, front, Frames, frames_of_front, frames_within, frames}
 use Rattle.type_lookup.proofs.Following.{sized-cut, sized-full, sized-long, lengthy-cut, lengthy-full}
 
-never-framed : (fault : FrameFault) (message : Message) (rest : List ℕ) → broken fault ≡ framed message rest → ⊥
+pub never-framed : (fault : FrameFault) (message : Message) (rest : List ℕ) → broken fault ≡ framed message rest → ⊥
 never-framed fault message rest e = cc
 
-no-frame-framed : (message : Message) (rest : List ℕ) → no_frame ≡ framed message rest → ⊥
+pub no-frame-framed : (message : Message) (rest : List ℕ) → no_frame ≡ framed message rest → ⊥
 no-frame-framed message rest e = cc
 
 no-frame-broken : (fault : FrameFault) → no_frame ≡ broken fault → ⊥

@@ -62,19 +62,14 @@ Answers octets left (Err (TooLong n)) = front octets ≡ broken (TooLong n)
 Answers octets left (Err (BadMessage at)) = front octets ≡ broken (BadMessage at)
 Answers octets left (Err OutOfMemory) = Unit {0}
 
--- There are octets that were read, and they are what was answered.
-abbrev pub IsAnswered : Option (List ℕ) → Option (List ℕ) → Option (List ℕ) → Option (List ℕ) → Result (Option Message) FrameFault → Type 0
-IsAnswered got_before got_now left_before left_now result = (octets : List ℕ) × Took got_before got_now left_before left_now octets × Answers octets left_now result
-
--- Reading a frame from a link: the octets that were read are a frame, or the first bad one. A fault of the link or of the memory says
--- nothing of them.
+-- Reading a frame from a link: the octets that were read are a frame, or the first bad one. After a fault of the link or of the memory some octets
+-- were read, and nothing is said of what they are.
 abbrev pub ReadsFrame : Option (List ℕ) → Option (List ℕ) → Option (List ℕ) → Option (List ℕ) → Result (Option Message) FrameFault → Type 0
-ReadsFrame got_before got_now left_before left_now (Ok found) = IsAnswered got_before got_now left_before left_now (Ok found)
-ReadsFrame got_before got_now left_before left_now (Err LinkFault) = Unit {0}
-ReadsFrame got_before got_now left_before left_now (Err Truncated) = IsAnswered got_before got_now left_before left_now (Err Truncated)
-ReadsFrame got_before got_now left_before left_now (Err (TooLong n)) = IsAnswered got_before got_now left_before left_now (Err (TooLong n))
-ReadsFrame got_before got_now left_before left_now (Err (BadMessage at)) = IsAnswered got_before got_now left_before left_now (Err (BadMessage at))
-ReadsFrame got_before got_now left_before left_now (Err OutOfMemory) = Unit {0}
+ReadsFrame got_before got_now left_before left_now result = (octets : List ℕ) × Took got_before got_now left_before left_now octets × Answers octets left_now result
+
+-- Some octets were read.
+abbrev pub TookSome : Option (List ℕ) → Option (List ℕ) → Option (List ℕ) → Option (List ℕ) → Type 0
+TookSome got_before got_now left_before left_now = (octets : List ℕ) × Took got_before got_now left_before left_now octets
 
 -- What reading a frame answers, where the link tells its octets: what stands at their front.
 abbrev pub FrontIs : Option (List ℕ) → Result (Option Message) FrameFault → Option (List ℕ) → Type 0

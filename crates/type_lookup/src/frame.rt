@@ -1,5 +1,6 @@
 //! Frames on a link.
 ghost use Rattle.std.specs.Prelude.{◌≡◌, ◌++◌, ℕ, List, [], IfOk, IfErr, IfSome, OnOk};
+ghost use Rattle.std.specs.Int.{w32, from_be_bytes, to_be_bytes};
 ghost use Rattle.std.specs.Io.KnownBytes.{append_known};
 ghost use Rattle.lookup_messages.specs.Fields.{got, payload};
 ghost use Rattle.lookup_messages.specs.Spelling.{HasFrame, frame_of, payload_of};
@@ -8,6 +9,7 @@ ghost use Rattle.type_lookup.specs.Frames.{FrontIs, ReadsFrame, framed, front};
 
 use crate::faults::FrameFault;
 use crate::transfer::{fill, read_text, write_whole};
+use byteorder::{BigEndian, ByteOrder};
 use lookup_messages::{Message, PayloadFault, read_payload, spell};
 use std::alloc::Global;
 use xt_io::Link;
@@ -20,7 +22,7 @@ const MOST_PAYLOAD: u32 = 262_144;
 /// order from 1 to 262,144, and the payload. After a fault the link is not used again: Truncated, TooLong and BadMessage say what
 /// is wrong with the frame, LinkFault comes only where the link's count of faults rose.
 pub fn read_frame<L: Link>(alloc: Global, link: &mut L) -> Result<Option<Message>, FrameFault>
-    // The octets that were read are a frame or the first bad one.
+    // The octets that were read are a frame or the first bad one; after a fault of the link or of the memory, some octets.
     ensures octets { ReadsFrame (L.got link.old) (L.got link.new) (L.left link.old) (L.left link.new) result }
 
     // So it stands at the front of all that the link had left.
@@ -33,6 +35,20 @@ pub fn read_frame<L: Link>(alloc: Global, link: &mut L) -> Result<Option<Message
     ensures same { L.name link.new ≡ L.name link.old }
 {
     take_frame(alloc, link)
+}
+
+fn length_of(size: [u8; 4]) -> u32
+    ensures { result ≡ from_be_bytes w32 size }
+{
+    BigEndian::read_u32(&size)
+}
+
+fn size_of(length: u32) -> [u8; 4]
+    ensures { result ≡ to_be_bytes w32 length }
+{
+    let mut size = [0; 4];
+    BigEndian::write_u32(&mut size, length);
+    size
 }
 
 // Reads the octets of a frame, and no others.
@@ -51,7 +67,7 @@ fn take_frame<L: Link>(alloc: Global, link: &mut L) -> Result<Option<Message>, F
     if count < 4 {
         return Err(FrameFault::Truncated);
     }
-    let length = u32::from_be_bytes(size);
+    let length = length_of(size);
     if length == 0 {
         return Err(FrameFault::BadMessage { at: 0 });
     }
@@ -102,7 +118,7 @@ fn spell_frame(alloc: Global, message: &Message) -> Result<Text, OutOfMemory>
     ensures readable { OnOk result (payload (payload_of message.now) ≡ got message.now []) }
 {
     let payload = spell(alloc, message)?;
-    let mut frame = Text::from_octets(alloc, &(payload.len() as u32).to_be_bytes())?;
+    let mut frame = Text::from_octets(alloc, &size_of(payload.len() as u32))?;
     frame.append(payload.octets())?;
     Ok(frame)
 }

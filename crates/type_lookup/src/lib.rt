@@ -4,12 +4,15 @@
 
 mod faults;
 mod frame;
+mod laws;
 #[cfg(test)]
 mod tests;
 mod transfer;
 
 pub use faults::FrameFault;
 pub use frame::{read_frame, write_frame};
+pub use laws::{frames_by_front, frames_follow};
 pub use lookup_messages::{
-    Fetched, GET_TYPE_DEPENDENCIES, GET_TYPES, Message, Needed, Operation, PUT_TYPES,
+    Fetched, GET_TYPE_DEPENDENCIES, GET_TYPES, Message, Needed, Operation, PUT_TYPES, payload_size,
+    payloads_are_spellings,
 };

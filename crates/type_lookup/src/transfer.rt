@@ -2,7 +2,7 @@
 ghost use Rattle.std.specs.Prelude.{◌≡◌, ◌≤◌, ◌<◌, ◌++◌, ℕ, List, length, take, IfOk, IfErr};
 ghost use Rattle.std.specs.Io.KnownBytes.{IsAtEnd, append_known};
 ghost use Rattle.xt_io.specs.Outside.{HasCause};
-ghost use Rattle.type_lookup.specs.Frames.{Took};
+ghost use Rattle.type_lookup.specs.Frames.{Took, TookSome};
 ghost use Rattle.type_lookup.specs.Causes.{HasFrameCause, IsOutside};
 
 use crate::faults::FrameFault;
@@ -16,6 +16,7 @@ const CHUNK: usize = 4096;
 pub(crate) fn fill<L: Link>(link: &mut L, into: &mut [u8]) -> Result<usize, Failed>
     ensures bound { IfOk result (λ n. n ≤ length into.new) }
     ensures octets { IfOk result (λ n. Took (L.got link.old) (L.got link.new) (L.left link.old) (L.left link.new) (take n into.new)) }
+    ensures some { IfErr result (λ _. TookSome (L.got link.old) (L.got link.new) (L.left link.old) (L.left link.new)) }
     ensures end { IfOk result (λ n. n < length into.new → IsAtEnd (L.left link.new)) }
     ensures taken { L.taken link.new ≡ L.taken link.old }
     ensures cause { HasCause (L.faults link.old) (L.faults link.new) result }
@@ -39,6 +40,7 @@ pub(crate) fn read_text<L: Link>(
     most: usize,
 ) -> Result<Text, FrameFault>
     ensures octets { IfOk result (λ t. Took (L.got link.old) (L.got link.new) (L.left link.old) (L.left link.new) t) }
+    ensures some { IfErr result (λ _. TookSome (L.got link.old) (L.got link.new) (L.left link.old) (L.left link.new)) }
     ensures within { IfOk result (λ t. length t ≤ most) }
     ensures end { IfOk result (λ t. length t < most → IsAtEnd (L.left link.new)) }
     ensures fault { IfErr result IsOutside }

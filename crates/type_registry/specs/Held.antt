@@ -1,7 +1,8 @@
 -- What cells hold, and what a read of one tells.
-use Rattle.std.specs.Prelude.{◌≡◌, ℕ, List, [], ◌∷◌, Some, slice_get, slice_index}
+use Rattle.std.specs.Prelude.{◌≡◌, ℕ, List, [], ◌∷◌, Some, slice_get}
 use Rattle.type_trees.specs.declared.types.HashId.{HashId}
-use Rattle.type_object.specs.Faults.{IsObject}
+use Rattle.type_object.specs.Names.{named_by}
+use Rattle.type_object.specs.Pools.{IsObject}
 
 -- an identifier, and the text of its object
 pub record Held : Type 0 where
@@ -11,14 +12,9 @@ pub record Held : Type 0 where
 abbrev pub held : HashId → List ℕ → Held
 held id octets = record { id = id; octets = octets }
 
--- the identifier of an object's text, where texts are named so: its kind, which stands behind the count of its octets, and its name
--- (7.3.4, EquivalenceHash)
-abbrev pub id_of : (List ℕ → List ℕ) → List ℕ → HashId
-id_of name octets = record { kind = slice_index octets 4; hash = name octets }
-
 -- the text is an object's, and stands under its identifier
 abbrev pub IsNamed : (List ℕ → List ℕ) → Held → Type 0
-IsNamed name h = IsObject h.octets × (h.id ≡ id_of name h.octets)
+IsNamed name h = IsObject h.octets × (h.id ≡ named_by name h.octets)
 
 -- cell number i of these showed x, and that is what was learned
 abbrev pub Reads : {X : Type 0} → List ℕ → ℕ → X → List (ℕ × X) → Type 0

@@ -4,7 +4,7 @@ use Rattle.std.specs.Borrow.{Bor}
 use Rattle.std.specs.Map.{lookup}
 use Rattle.std.specs.Option.{option_map}
 use Rattle.type_trees.specs.declared.types.HashId.{HashId}
-use Rattle.cell_core.specs.Cells.{same_id}
+use Rattle.type_trees.specs.Ids.{same_id}
 use Rattle.type_registry.specs.Held.{Held}
 use Rattle.type_registry.specs.Walked.{Walk}
 use Rattle.type_registry.specs.Found.{Found, held_of, IsShown, IsFinding}

@@ -1,7 +1,7 @@
 ghost use Rattle.std.specs.Prelude.{◌≡◌, [], ◌∷◌, ◌++◌, None, OnOk, OnErr};
 ghost use Rattle.std.specs.Map.{lookup};
 ghost use Rattle.std.specs.Option.{option_copied};
-ghost use Rattle.cell_core.specs.Cells.{same_id};
+ghost use Rattle.type_trees.specs.Ids.{same_id};
 
 use indexmap::IndexMap;
 use std::alloc::Global;
@@ -12,26 +12,20 @@ use xt_lists::OutOfMemory;
 /// Values by identifiers, in the order in which they came. A look-up goes by the identifier's hash.
 #[derive(Drop)]
 pub(crate) struct ById<V> {
-    entries: IndexMap<(u8, [u8; 14]), V>,
+    entries: IndexMap<HashId, V>,
 }
 
 impl<V> Model for ById<V> {
-    ghost use Rattle.std.specs.Prelude.{List, map};
+    ghost use Rattle.std.specs.Prelude.{List};
     ghost use Rattle.std.specs.Coded.{coded_list, coded×};
     ghost use Rattle.type_trees.specs.declared.types.HashId.{HashId};
-    ghost use Rattle.type_registry.specs.Keys.{entry_of, coded_id};
+    ghost use Rattle.type_registry.specs.Keys.{coded_id};
 
     ghost Value = { List (HashId × V) };
 
     ghost coded = { coded_list (coded× coded_id V.code) };
 
-    ghost view = { λ values. map entry_of values.entries.entries };
-}
-
-fn key_of(id: &HashId) -> (u8, [u8; 14])
-    ensures { result ≡ (id.now.kind, id.now.hash) }
-{
-    (id.kind, id.hash)
+    ghost view = { λ values. values.entries.entries };
 }
 
 impl<V> ById<V> {
@@ -48,7 +42,7 @@ impl<V> ById<V> {
     pub(crate) fn get(&self, id: &HashId) -> Option<&V>
         ensures { option_copied result ≡ lookup (same_id id.now) self.now }
     {
-        self.entries.get(&key_of(id))
+        self.entries.get(id)
     }
 }
 
@@ -59,7 +53,7 @@ impl<V: Drop> ById<V> {
         ensures ok { OnOk result (self.new ≡ self.old ++ (id, value) ∷ []) }
         ensures err { OnErr result (self.new ≡ self.old) }
     {
-        self.entries.insert(key_of(&id), value)?;
+        self.entries.insert(id, value)?;
         Ok(())
     }
 }

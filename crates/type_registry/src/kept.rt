@@ -1,7 +1,7 @@
 use crate::finding::Finding;
 use crate::naming::Naming;
 use crate::trail::Trail;
-use type_object::ObjectFault;
+use type_object::Fault;
 
 /// An object that is in the registry, under its identifier.
 #[derive(Drop)]
@@ -15,8 +15,8 @@ pub enum Kept<'r, N: Naming> {
 /// Why an object is not in the registry. The first that holds is answered.
 #[derive(Drop)]
 pub enum RegisterFault<'r, N: Naming> {
-    /// The octets are no object's text; this is their first fault. It is never `OutOfMemory`.
-    NotAnObject(ObjectFault),
+    /// The octets are no object's text; this is their first fault.
+    NotAnObject(Fault),
     /// Other octets stand under the identifier.
     Clash(Finding<'r, N>),
     /// All 64 probed cells of the identifier are full, each with another one.

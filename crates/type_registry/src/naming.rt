@@ -1,8 +1,7 @@
 ghost use Rattle.std.specs.Prelude.{◌≡◌, ℕ, List};
-ghost use Rattle.type_object.specs.Names.{hash_of};
-ghost use Rattle.type_registry.specs.Held.{id_of};
+ghost use Rattle.type_object.specs.Names.{hash_of, named_by};
 
-use type_object::hash_of;
+use type_object::{hash_of, kind_of};
 use type_trees::HashId;
 
 /// How a registry names the text of an object: the hash of its identifier, which is a function of the text's octets.
@@ -26,10 +25,10 @@ impl Naming for Md5Naming {
 
 /// The identifier of an object's text: its kind, which stands behind the count of its octets, and its name.
 pub(crate) fn named<N: Naming>(octets: &[u8]) -> HashId
-    ensures { result ≡ id_of N.name octets.now }
+    ensures { result ≡ named_by N.name octets.now }
 {
     HashId {
-        kind: if 4 < octets.len() { octets[4] } else { 0 },
+        kind: kind_of(octets),
         hash: N::name_of(octets),
     }
 }

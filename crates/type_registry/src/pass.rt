@@ -45,6 +45,13 @@ impl<N: Naming> Registry<N> {
 }
 
 impl<'r, N: Naming> Pass<'r, N> {
+    /// It does nothing, and tells that what the pass knows is true of its registry.
+    pub fn holds(&self)
+        ensures { IsPass N.name self.now }
+    {
+        let _registry = self.registry;
+    }
+
     /// The finding that the pass has of an identifier. It takes no memory.
     pub(crate) fn recall(&self, id: &HashId) -> Option<Finding<'r, N>>
         ensures found { MatchOption result (known self.now id.now ≡ None) (λ f. (f.registry ≡ self.now.registry) × (f.id ≡ id.now) × (known self.now id.now ≡ Some f.octets)) }

@@ -1,5 +1,5 @@
 ghost use Rattle.std.specs.Prelude.{◌≡◌, ◌≢◌, IfOk, IfErr, OnOk, None};
-ghost use Rattle.type_object.specs.Faults.{IsObject};
+ghost use Rattle.type_object.specs.Pools.{IsObject};
 ghost use Rattle.type_registry.specs.Held.{IsNamed, held};
 ghost use Rattle.type_registry.specs.Registered.{IsKept, IsNoObject, IsRefused, IsSettled};
 ghost use Rattle.type_registry.specs.Passed.{Grows, IsPass, known};
@@ -12,7 +12,7 @@ use crate::path::Path;
 use crate::registry::Registry;
 use crate::trail::Trail;
 use std::alloc::Global;
-use type_object::{ObjectFault, read_object};
+use type_object::{Fault, ObjectFault, read_object};
 use type_trees::HashId;
 use xt_lists::OutOfMemory;
 
@@ -128,7 +128,7 @@ fn expect_object<'r, N: Naming>(alloc: Global, octets: &[u8]) -> Result<(), Regi
 {
     match read_object(alloc, octets) {
         Ok(_) => Ok(()),
+        Err(ObjectFault::Not { at, rule }) => Err(RegisterFault::NotAnObject(Fault { at, rule })),
         Err(ObjectFault::OutOfMemory) => Err(RegisterFault::OutOfMemory),
-        Err(fault) => Err(RegisterFault::NotAnObject(fault)),
     }
 }

@@ -4,7 +4,7 @@ ghost use Rattle.type_registry.specs.Weak.{zeros, last_six};
 use crate::{Finding, Kept, Md5Naming, Naming, Pass, RegisterFault, Registry, agree};
 use std::alloc::Global;
 use std::thread;
-use type_object::{ObjectFault, ObjectRule};
+use type_object::{Fault, ObjectRule};
 use type_trees::HashId;
 use xt_lists::OutOfMemory;
 
@@ -166,7 +166,7 @@ fn another_pass_finds_what_the_first_registered(rt: HostRuntime) {
 fn a_text_cut_short_is_no_object(rt: HostRuntime) {
     let registry: Registry<Md5Naming> = Registry::new(rt.alloc());
     let mut pass = registry.pass(rt.alloc());
-    let fault = ObjectFault::Not {
+    let fault = Fault {
         at: 35,
         rule: ObjectRule::Short,
     };
@@ -199,7 +199,7 @@ fn finding_of<'r>(
     }
 }
 
-/// Registers a hundred objects, in one order or the other.
+/// Registers twenty objects, in one order or the other.
 fn register_all<'r>(
     registry: &'r Registry<Md5Naming>,
     alloc: Global,
@@ -209,8 +209,8 @@ fn register_all<'r>(
 {
     let mut pass = registry.pass(alloc);
     let mut found = Vec::new(alloc);
-    for i in 0..100u8 {
-        let last = if down { 99 - i } else { i };
+    for i in 0..20u8 {
+        let last = if down { 19 - i } else { i };
         let finding = finding_of(registry, alloc, &mut pass, &object(last))?;
         found.push(finding)?;
     }
@@ -241,9 +241,9 @@ fn threads_agree_on_each_object(rt: HostRuntime) {
     );
     match (up, down) {
         (Ok(up), Ok(down)) => {
-            assert!(rt; up.len() == 100 && down.len() == 100);
-            for i in 0..100usize {
-                let (a, b) = (&up[i], &down[99 - i]);
+            assert!(rt; up.len() == 20 && down.len() == 20);
+            for i in 0..20usize {
+                let (a, b) = (&up[i], &down[19 - i]);
                 assert!(rt; agree(a, b) && a.octets() == b.octets());
                 assert!(rt; is_found(&registry, alloc, a.octets()));
             }
@@ -258,6 +258,7 @@ fn expect_send<T: Send>(_value: &T) {}
 fn a_pass_may_go_to_another_thread(rt: HostRuntime) {
     let registry: Registry<Md5Naming> = Registry::new(rt.alloc());
     let pass = registry.pass(rt.alloc());
+    pass.holds();
     expect_send(&pass);
     assert!(rt; registry.find(&pass, &id_of::<Md5Naming>(&COLOR)).is_none());
 }

@@ -1,9 +1,14 @@
-use Rattle.std.proofs.Common.{◌≡◌, List, [], ℕ, Err, subst, arith}
+use Rattle.std.proofs.Common.{◌≡◌, List, [], ℕ, Err, subst, arith, get_or, Fits, w8}
 use Rattle.std.proofs.lemmas.Result.{err_from_is_err_and}
 use Rattle.lookup_messages.specs.Fields.{Reads, message_at, got}
+use Rattle.lookup_messages.specs.Spelling.{AreOctets}
 use Rattle.lookup_messages.proofs.Limits.{message_limits}
 use Rattle.lookup_messages.proofs.Payloads.{payload-stopped, payload-longer, payload-whole}
 use Rattle.lookup_messages.proofs.fields.read_payload.Goals as goal
+
+-- the octets of a slice
+octets_are : (octets : List ℕ) → ((i : ℕ) → Fits w8 (get_or octets i 0)) → AreOctets octets
+octets_are octets fits i = let h = fits i in omega (arith, h)
 
 pub returns-in_err-message-clause-read : goal.returns-in_err-message-clause-read
 returns-in_err-message-clause-read c =
@@ -22,7 +27,7 @@ returns-clause-read c =
     payload-whole _ _ _ read (omega (arith, c.if-fields-gt0.false))
 
 pub returns-clause-limits : goal.returns-clause-limits
-returns-clause-limits c = (message_limits c.args.octets.now [] c.in_ok-message.message (returns-clause-read c)).0
+returns-clause-limits c = (message_limits c.args.octets.now [] c.in_ok-message.message (octets_are c.args.octets.now c.type_inv.octets) (returns-clause-read c)).0
 
-pub returns-clause-long : goal.returns-clause-long
-returns-clause-long c = (message_limits c.args.octets.now [] c.in_ok-message.message (returns-clause-read c)).1
+pub returns-clause-spelled : goal.returns-clause-spelled
+returns-clause-spelled c = (message_limits c.args.octets.now [] c.in_ok-message.message (octets_are c.args.octets.now c.type_inv.octets) (returns-clause-read c)).1

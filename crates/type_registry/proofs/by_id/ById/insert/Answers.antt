@@ -2,4 +2,4 @@ use Rattle.type_registry.proofs.Keyed.{inserted}
 use Rattle.type_registry.proofs.by_id.ById.insert.Goals as goal
 
 pub returns-clause-ok : goal.returns-clause-ok
-returns-clause-ok g c = inserted c.self.inside.entries c.key_of.result c.args.id c.args.value _ _ c.in_ok-insert.ensures.entries c.key_of.ensures c.self.view_is c.requires
+returns-clause-ok g c = inserted c.self.inside.entries c.args.id c.args.value _ _ c.in_ok-insert.ensures.entries c.self.view_is c.requires
