@@ -1,0 +1,268 @@
+//! The calls on types and values, and their answers in print.
+ghost use Rattle.std.specs.Prelude.{◌≡◌};
+ghost use Rattle.type_trees.specs.Bridge.{type_shape};
+ghost use Rattle.try_construct.specs.Typed as spec;
+
+use crate::cases::Case;
+use crate::samples::{body_read, sample_again, sample_read, told};
+use crate::trouble::Trouble;
+use crate::values::{given_value, json_of, pairs_of, string_of, type_of, types_of, value_of};
+use crate::writing::{body_written, sample_faults, sample_written, text_size};
+use assignability::{Verdict, equivalent, judge, judge_under};
+use dynamic_data::get;
+use std::alloc::Global;
+use std::fmt::Debug;
+use try_construct::project;
+use type_rules::{check_type, is_within_limits};
+use type_sizes::{TOO_MANY, capped_nodes, capped_weight, weight};
+use type_trees::{Member, Name, Named, Value, XType, as_map, as_struct, as_union};
+use type_values::{base_of, copy_type, copy_value, default_value, has_same_keys, has_type};
+use xcdr_model::Policy;
+use xt_idl::{IdlFault, print};
+use xt_lists::{Row, Text};
+use xt_shapes::Rep;
+
+/// The answer of a call over the texts of a case.
+pub fn answer(alloc: Global, call: &str, case: &Case<'_>) -> Result<String, Trouble> {
+    let (name, words) = call.split_once(' ').unwrap_or((call, ""));
+    match name {
+        "check" => check(alloc, case),
+        "print" => printed(alloc, case),
+        "weight" => weighed(alloc, case),
+        "nodes" => nodes(alloc, case),
+        "typed" => typed(alloc, case),
+        "default" => default_of(alloc, case),
+        "copy" => copied(alloc, case),
+        "base" => base(alloc, case),
+        "keys" => same_keys(alloc, case),
+        "json" => json(alloc, case),
+        "get" => got(alloc, words, case),
+        "judge" => judged(alloc, words, case),
+        "equivalent" => equal(alloc, case),
+        "project" => projected(alloc, case),
+        "read" => sample_read(alloc, case),
+        "again" => sample_again(alloc, case),
+        "body" => body_read(alloc, case),
+        "write" => sample_written(alloc, words, case),
+        "encode" => body_written(alloc, words, case),
+        "faults" => sample_faults(alloc, words, case),
+        "size" => text_size(alloc, words, case),
+        _ => Err(Trouble::Words),
+    }
+}
+
+/// `valid`, or the rule that the text's first invalid type breaks, and where.
+fn check(alloc: Global, case: &Case<'_>) -> Result<String, Trouble> {
+    let types = match types_of(alloc, case.ty) {
+        Ok(types) => types,
+        Err(Trouble::Idl(IdlFault::Invalid { at: _, fault })) => {
+            return Ok(format!(in alloc; "V{} {}", fault.rule, fault.node)?);
+        }
+        Err(trouble) => return Err(trouble),
+    };
+    for named in types.as_slice() {
+        if let Err(fault) = check_type(&named.ty) {
+            return Ok(format!(in alloc; "V{} {}", fault.rule, fault.node)?);
+        }
+    }
+    Ok(String::from_str(alloc, "valid")?)
+}
+
+fn printed(alloc: Global, case: &Case<'_>) -> Result<String, Trouble> {
+    let text = string_of(alloc, &print(alloc, &types_of(alloc, case.ty)?)?)?;
+    Ok(String::from_str(alloc, text.as_str().trim_end())?)
+}
+
+/// The weight, by the call that stops at the limit, and below it by the other too.
+fn weighed(alloc: Global, case: &Case<'_>) -> Result<String, Trouble> {
+    let ty = type_of(alloc, case.ty)?;
+    let capped = capped_weight(&ty);
+    if capped < TOO_MANY && weight(&ty) != capped {
+        return Ok(String::from_str(alloc, "two weights")?);
+    }
+    Ok(format!(in alloc; "{capped}")?)
+}
+
+fn nodes(alloc: Global, case: &Case<'_>) -> Result<String, Trouble> {
+    let ty = type_of(alloc, case.ty)?;
+    Ok(format!(in alloc; "{}", capped_nodes(&ty))?)
+}
+
+/// Whether the type has the value, which the writer's type has. A list of pairs stands for a map.
+fn typed(alloc: Global, case: &Case<'_>) -> Result<String, Trouble> {
+    let ty = type_of(alloc, case.ty)?;
+    let value = given_value(alloc, case)?;
+    if as_map(&ty).is_none() {
+        return Ok(format!(in alloc; "{}", has_type(&ty, &value))?);
+    }
+    let map = Value::Map(pairs_of(alloc, value)?);
+    Ok(format!(in alloc; "{}", has_type(&ty, &map))?)
+}
+
+fn default_of(alloc: Global, case: &Case<'_>) -> Result<String, Trouble> {
+    let ty = type_of(alloc, case.ty)?;
+    let value = default_value(alloc, &ty)?;
+    json_of(alloc, &ty, &value)
+}
+
+/// A type under the name `N`, as IDL.
+fn line_of(alloc: Global, ty: XType) -> Result<String, Trouble> {
+    let mut types = Row::new(alloc);
+    types.push(Named {
+        name: Text::from_octets(alloc, b"N")?,
+        ty,
+    })?;
+    string_of(alloc, &print(alloc, &types)?)
+}
+
+/// Whether two types or values are one, by all of their parts.
+fn is_same<T: Debug>(alloc: Global, left: &T, right: &T) -> Result<bool, Trouble> {
+    let left = format!(in alloc; "{left:?}")?;
+    let right = format!(in alloc; "{right:?}")?;
+    Ok(left.as_str() == right.as_str())
+}
+
+/// `same` where copies of the type and of the value are what they copy.
+fn copied(alloc: Global, case: &Case<'_>) -> Result<String, Trouble> {
+    let ty = type_of(alloc, case.ty)?;
+    let value = value_of(alloc, &ty, case.value)?;
+    if !is_same(alloc, &copy_value(alloc, &value)?, &value)? {
+        return Ok(String::from_str(alloc, "another value")?);
+    }
+    if !is_same(alloc, &copy_type(alloc, &ty)?, &ty)? {
+        return Ok(String::from_str(alloc, "another type")?);
+    }
+    Ok(String::from_str(alloc, "same")?)
+}
+
+fn base(alloc: Global, case: &Case<'_>) -> Result<String, Trouble> {
+    let ty = type_of(alloc, case.ty)?;
+    let structure = as_struct(&ty).ok_or(Trouble::Words)?;
+    let Some(base) = base_of(alloc, structure)? else {
+        return Ok(String::from_str(alloc, "none")?);
+    };
+    let text = line_of(alloc, XType::Struct(Box::new(alloc, base)?))?;
+    Ok(String::from_str(alloc, text.as_str().trim_end())?)
+}
+
+/// Whether two pairs have one key.
+fn same_keys(alloc: Global, case: &Case<'_>) -> Result<String, Trouble> {
+    let pairs = pairs_of(alloc, given_value(alloc, case)?)?;
+    Ok(format!(in alloc; "{}", has_same_keys(alloc, pairs.as_slice())?)?)
+}
+
+/// The JSON of the value by the type, whether or not the type has it.
+fn json(alloc: Global, case: &Case<'_>) -> Result<String, Trouble> {
+    let ty = type_of(alloc, case.ty)?;
+    let value = given_value(alloc, case)?;
+    json_of(alloc, &ty, &value)
+}
+
+fn member_type<'t>(members: &'t [Member], name: &Text) -> Option<&'t XType> {
+    for member in members {
+        if let Name::Full(text) = &member.name {
+            if text.octets() == name.octets() {
+                return Some(&member.ty);
+            }
+        }
+    }
+    None
+}
+
+/// The type of the part that names of members lead to.
+fn type_at<'t>(ty: &'t XType, names: &[Text]) -> Option<&'t XType> {
+    let mut part = ty;
+    for name in names {
+        part = member_type(as_struct(part)?.members.as_slice(), name)?;
+    }
+    Some(part)
+}
+
+/// The JSON of a part, or its numbers where its type isn't at hand.
+fn part_told(alloc: Global, ty: Option<&XType>, part: &Value) -> Result<String, Trouble> {
+    let Some(ty) = ty else {
+        return Ok(format!(in alloc; "{part:?}")?);
+    };
+    match check_type(ty) {
+        Ok(()) => json_of(alloc, ty, part),
+        Err(_) => Ok(format!(in alloc; "{part:?}")?),
+    }
+}
+
+/// The part of the value that these names lead to, a structure's by its members' names.
+fn got(alloc: Global, words: &str, case: &Case<'_>) -> Result<String, Trouble> {
+    let ty = type_of(alloc, case.ty)?;
+    let value = value_of(alloc, &ty, case.value)?;
+    let mut names = Row::new(alloc);
+    for word in words.split_whitespace() {
+        names.push(Text::from_octets(alloc, word.as_bytes())?)?;
+    }
+    match get(&ty, &value, names.as_slice()) {
+        Some(part) => part_told(alloc, type_at(&ty, names.as_slice()), part),
+        None => Ok(String::from_str(alloc, "none")?),
+    }
+}
+
+fn rep_of(word: &str) -> Result<Rep, Trouble> {
+    match word {
+        "xcdr1" => Ok(Rep::Xcdr1),
+        "xcdr2" => Ok(Rep::Xcdr2),
+        _ => Err(Trouble::Words),
+    }
+}
+
+/// The standard policy, changed as the words say.
+fn policy_of(words: &str) -> Result<Policy, Trouble> {
+    let mut policy = Policy::standard();
+    for word in words.split_whitespace() {
+        match word {
+            "disallow" => policy.coercion = false,
+            "string-bounds" => policy.ignore_string_bounds = false,
+            "sequence-bounds" => policy.ignore_sequence_bounds = false,
+            "any-names" => policy.ignore_member_names = true,
+            _ => return Err(Trouble::Words),
+        }
+    }
+    Ok(policy)
+}
+
+fn judged(alloc: Global, words: &str, case: &Case<'_>) -> Result<String, Trouble> {
+    let (rep, more) = words.split_once(' ').unwrap_or((words, ""));
+    let rep = rep_of(rep)?;
+    let policy = policy_of(more)?;
+    let reader = type_of(alloc, case.ty)?;
+    let writer = type_of(alloc, case.writer)?;
+    is_within_limits();
+    let verdict = if more.is_empty() {
+        judge(rep, &reader, &writer)
+    } else {
+        judge_under(&policy, rep, &reader, &writer)
+    };
+    match verdict {
+        Verdict::Yes => Ok(String::from_str(alloc, "yes")?),
+        Verdict::No { rule, path } => Ok(format!(in alloc; "no {rule} {path}")?),
+    }
+}
+
+fn equal(alloc: Global, case: &Case<'_>) -> Result<String, Trouble> {
+    let reader = type_of(alloc, case.ty)?;
+    let writer = type_of(alloc, case.writer)?;
+    Ok(format!(in alloc; "{}", equivalent(&reader, &writer))?)
+}
+
+fn is_top(ty: &XType) -> bool
+    ensures { result ≡ spec.is_top (type_shape ty.now) }
+{
+    as_struct(ty).is_some() || as_union(ty).is_some()
+}
+
+fn projected(alloc: Global, case: &Case<'_>) -> Result<String, Trouble> {
+    let reader = type_of(alloc, case.ty)?;
+    let writer = type_of(alloc, case.writer)?;
+    let value = value_of(alloc, &writer, case.value)?;
+    if !is_top(&reader) || !is_top(&writer) || !has_type(&writer, &value) {
+        return Err(Trouble::Words);
+    }
+    let outcome = project(alloc, &reader, &writer, &value)?;
+    told(alloc, &reader, &outcome)
+}

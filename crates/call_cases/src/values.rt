@@ -1,0 +1,109 @@
+//! Types of IDL texts, and values of JSON.
+ghost use Rattle.std.specs.Prelude.{◌≡◌, None, IfOk};
+ghost use Rattle.type_trees.specs.View.{tree};
+ghost use Rattle.type_rules.specs.Valid.{type_fault};
+
+use crate::cases::Case;
+use crate::trouble::Trouble;
+use dynamic_data::{from_json, to_json};
+use std::alloc::Global;
+use type_rules::check_type;
+use type_trees::{Named, Pair, Slot, Value, XType};
+use type_values::copy_value;
+use xt_idl::parse;
+use xt_lists::{Row, Text};
+
+/// The most octets that `parse` takes.
+const MOST_TEXT: usize = 1_048_576;
+
+/// The types that the text declares.
+pub fn types_of(alloc: Global, text: &str) -> Result<Row<Named>, Trouble> {
+    if text.len() > MOST_TEXT {
+        return Err(Trouble::Words);
+    }
+    Ok(parse(alloc, text.as_bytes())?)
+}
+
+/// The type, if it breaks no rule.
+fn checked(alloc: Global, ty: XType) -> Result<XType, Trouble>
+    ensures { IfOk result (λ ty. type_fault (tree ty) ≡ None) }
+{
+    match check_type(&ty) {
+        Ok(()) => Ok(ty),
+        Err(fault) => Err(Trouble::Invalid {
+            rule: fault.rule,
+            node: format!(in alloc; "{}", fault.node)?,
+        }),
+    }
+}
+
+/// The last type that the text declares. It breaks no rule.
+pub fn type_of(alloc: Global, text: &str) -> Result<XType, Trouble>
+    ensures { IfOk result (λ ty. type_fault (tree ty) ≡ None) }
+{
+    match types_of(alloc, text)?.pop() {
+        Some(named) => checked(alloc, named.ty),
+        None => Err(Trouble::Words),
+    }
+}
+
+/// The value that the JSON gives for the type.
+pub fn value_of(alloc: Global, ty: &XType, json: &str) -> Result<Value, Trouble>
+    requires { type_fault (tree ty.now) ≡ None }
+{
+    Ok(from_json(alloc, ty, json.as_bytes())?)
+}
+
+/// The value of a case, of the writer's type where there is one.
+pub fn given_value(alloc: Global, case: &Case<'_>) -> Result<Value, Trouble> {
+    let text = if case.writer.is_empty() {
+        case.ty
+    } else {
+        case.writer
+    };
+    let ty = type_of(alloc, text)?;
+    value_of(alloc, &ty, case.value)
+}
+
+/// The pair that a structure of a key and a value stands for.
+fn pair_of(alloc: Global, item: &Value) -> Result<Pair, Trouble> {
+    let Value::Struct(slots) = item else {
+        return Err(Trouble::Words);
+    };
+    let [Slot::Present(key), Slot::Present(value)] = slots.as_slice() else {
+        return Err(Trouble::Words);
+    };
+    Ok(Pair {
+        key: copy_value(alloc, key)?,
+        value: copy_value(alloc, value)?,
+    })
+}
+
+/// The pairs of a map, or those that a list stands for: in no map that JSON gives does a key come again.
+pub fn pairs_of(alloc: Global, value: Value) -> Result<Row<Pair>, Trouble> {
+    let items = match value {
+        Value::Map(pairs) => return Ok(pairs),
+        Value::List(items) => items,
+        _ => return Err(Trouble::Words),
+    };
+    let mut pairs = Row::new(alloc);
+    for item in items.as_slice() {
+        pairs.push(pair_of(alloc, item)?)?;
+    }
+    Ok(pairs)
+}
+
+/// The text as a string, where it is one.
+pub fn string_of(alloc: Global, text: &Text) -> Result<String, Trouble> {
+    match str::from_utf8(text.octets()) {
+        Ok(text) => Ok(String::from_str(alloc, text)?),
+        Err(_) => Err(Trouble::Words),
+    }
+}
+
+/// The JSON of a value.
+pub fn json_of(alloc: Global, ty: &XType, value: &Value) -> Result<String, Trouble>
+    requires { type_fault (tree ty.now) ≡ None }
+{
+    string_of(alloc, &to_json(alloc, ty, value)?)
+}

@@ -1,0 +1,227 @@
+//! Types that break a rule which the grammar of IDL already keeps, and values that JSON has no words for.
+use dynamic_data::{ValueFault, from_json, to_json};
+use std::alloc::Global;
+use std::process::Abort;
+use std::test::Fail;
+use type_rules::check_type;
+use type_sizes::capped_weight;
+use type_trees::{
+    AliasType, ArrayType, Base, Case, Elem, EnumType, Literal, Member, Name, SeqType, StructType,
+    UnionType, Value, XType,
+};
+use type_values::has_type;
+use xt_lists::{OutOfMemory, Row, Text};
+use xt_shapes::{Ext, Prim, Try};
+
+type Made<T> = Result<T, OutOfMemory>;
+
+fn named(alloc: Global, text: &str) -> Made<Name> {
+    Ok(Name::Full(Text::from_octets(alloc, text.as_bytes())?))
+}
+
+fn sequence(alloc: Global, ty: XType) -> Made<XType> {
+    let tc = Try::Discard;
+    let kind = SeqType {
+        bound: 0,
+        elem: Elem { ty, tc },
+    };
+    Ok(XType::Seq(Box::new(alloc, kind)?))
+}
+
+fn array_of_none(alloc: Global) -> Made<XType> {
+    let mut dims = Row::new(alloc);
+    dims.push(u32::MAX)?;
+    dims.push(0)?;
+    let kind = ArrayType {
+        dims,
+        elem: Elem {
+            ty: XType::Prim(Prim::Byte),
+            tc: Try::Discard,
+        },
+    };
+    Ok(XType::Array(Box::new(alloc, kind)?))
+}
+
+fn alias(alloc: Global, name: &str) -> Made<XType> {
+    let name = Some(Text::from_octets(alloc, name.as_bytes())?);
+    let ty = XType::Prim(Prim::Int32);
+    Ok(XType::Alias(Box::new(alloc, AliasType { name, ty })?))
+}
+
+fn member(id: u32, name: Name) -> Member {
+    Member {
+        id,
+        name,
+        ty: XType::Prim(Prim::Int32),
+        tc: Try::Discard,
+        optional: false,
+        must_understand: false,
+        key: false,
+    }
+}
+
+fn base(alloc: Global, count: u32) -> Made<Base> {
+    Ok(Base {
+        name: Some(Text::from_octets(alloc, b"geo::Base")?),
+        nested: false,
+        hashed_ids: false,
+        count,
+    })
+}
+
+fn structure(alloc: Global, bases: Row<Base>, members: Row<Member>) -> Made<XType> {
+    let kind = StructType {
+        name: None,
+        ext: Ext::Appendable,
+        nested: false,
+        hashed_ids: false,
+        bases,
+        members,
+    };
+    Ok(XType::Struct(Box::new(alloc, kind)?))
+}
+
+fn empty(alloc: Global) -> Made<XType> {
+    structure(alloc, Row::new(alloc), Row::new(alloc))
+}
+
+/// Two members, and two bases with these counts of members.
+fn with_bases(alloc: Global, first: u32, second: u32) -> Made<XType> {
+    let mut bases = Row::new(alloc);
+    bases.push(base(alloc, first)?)?;
+    bases.push(base(alloc, second)?)?;
+    let mut members = Row::new(alloc);
+    members.push(member(0, named(alloc, "a")?))?;
+    members.push(member(1, named(alloc, "b")?))?;
+    structure(alloc, bases, members)
+}
+
+/// One member, whose name is the hash of `color`.
+fn hashed(alloc: Global) -> Made<XType> {
+    let mut members = Row::new(alloc);
+    members.push(member(0, Name::Hashed(0xdfa5_dd70)))?;
+    structure(alloc, Row::new(alloc), members)
+}
+
+/// An enumeration of one literal, 5.
+fn enumeration(alloc: Global) -> Made<XType> {
+    let mut literals = Row::new(alloc);
+    literals.push(Literal {
+        name: named(alloc, "RED")?,
+        value: 5,
+        is_default: false,
+    })?;
+    let kind = EnumType {
+        name: None,
+        ext: Ext::Final,
+        bits: 8,
+        literals,
+    };
+    Ok(XType::Enum(Box::new(alloc, kind)?))
+}
+
+/// A union over that enumeration, with a case of this label.
+fn union(alloc: Global, label: i32) -> Made<XType> {
+    let mut labels = Row::new(alloc);
+    labels.push(label)?;
+    let mut cases = Row::new(alloc);
+    cases.push(Case {
+        id: 1,
+        name: named(alloc, "c")?,
+        ty: XType::Prim(Prim::Int32),
+        tc: Try::Discard,
+        labels,
+        is_default: false,
+    })?;
+    let kind = UnionType {
+        name: None,
+        ext: Ext::Final,
+        nested: false,
+        hashed_ids: false,
+        disc: enumeration(alloc)?,
+        disc_key: false,
+        cases,
+    };
+    Ok(XType::Union(Box::new(alloc, kind)?))
+}
+
+/// Asserts which rule the type breaks, and where.
+fn expect(rt: &impl Abort, alloc: Global, made: Made<XType>, want: &str) -> Made<()> {
+    let told = match check_type(&made?) {
+        Ok(()) => String::from_str(alloc, "valid")?,
+        Err(fault) => format!(in alloc; "V{} {}", fault.rule, fault.node)?,
+    };
+    assert_eq!(rt; told.as_str(), want);
+    Ok(())
+}
+
+#[test]
+fn types_that_no_text_declares(rt: HostRuntime) -> Result<(), Fail> {
+    let alloc = rt.alloc();
+    expect(
+        &rt,
+        alloc,
+        sequence(alloc, alias(alloc, "geo:P")?),
+        "V1 /[]",
+    )?;
+    expect(&rt, alloc, empty(alloc), "V4 /")?;
+    expect(&rt, alloc, array_of_none(alloc), "V7 /")?;
+    expect(&rt, alloc, union(alloc, 5), "valid")?;
+    expect(&rt, alloc, union(alloc, 6), "V11 /")?;
+    expect(&rt, alloc, with_bases(alloc, 1, 1), "V18 /")?;
+    expect(&rt, alloc, with_bases(alloc, 1, 2), "V18 /")?;
+    Ok(())
+}
+
+#[test]
+fn values_that_no_text_means(rt: HostRuntime) -> Result<(), Fail> {
+    let alloc = rt.alloc();
+    let text = Value::Str(Text::from_octets(alloc, b"a\0c")?);
+    assert!(rt; !has_type(&XType::Str(3), &text));
+    let double = XType::Prim(Prim::Float64);
+    assert!(rt; has_type(&double, &Value::Int(18_446_744_073_709_551_615)));
+    assert!(rt; !has_type(&double, &Value::Int(18_446_744_073_709_551_616)));
+    assert_eq!(rt; capped_weight(&array_of_none(alloc)?), 1);
+    Ok(())
+}
+
+/// What a JSON text means for the type, written again, or the reason why it means nothing.
+fn told(alloc: Global, ty: &XType, text: &[u8]) -> Made<Text> {
+    if check_type(ty).is_err() {
+        return Text::from_octets(alloc, b"no type");
+    }
+    match from_json(alloc, ty, text) {
+        Ok(value) => to_json(alloc, ty, &value),
+        Err(ValueFault::NotJson) => Text::from_octets(alloc, b"not JSON"),
+        Err(ValueFault::Wrong { rule, path: _ }) => {
+            Text::from_octets(alloc, format!(in alloc; "{rule}")?.as_bytes())
+        }
+        Err(ValueFault::OutOfMemory) => Err(OutOfMemory),
+    }
+}
+
+#[test]
+fn octets_that_are_no_text(rt: HostRuntime) -> Result<(), Fail> {
+    let alloc = rt.alloc();
+    let string = XType::Str(0);
+    assert_eq!(rt;
+        told(alloc, &string, b"\"a\"")?.octets(),
+        b"\"a\"".as_slice()
+    );
+    assert_eq!(rt;
+        told(alloc, &string, b"\"a\xff\"")?.octets(),
+        b"not JSON".as_slice()
+    );
+    Ok(())
+}
+
+#[test]
+fn a_member_whose_name_is_its_hash(rt: HostRuntime) -> Result<(), Fail> {
+    let alloc = rt.alloc();
+    let ty = hashed(alloc)?;
+    let text = b"{\"#70dda5df\":3}";
+    assert_eq!(rt; told(alloc, &ty, text)?.octets(), text.as_slice());
+    let capitals = b"{\"#70DDA5DF\":3}";
+    assert_eq!(rt; told(alloc, &ty, capitals)?.octets(), b"UNKNOWN".as_slice());
+    Ok(())
+}
