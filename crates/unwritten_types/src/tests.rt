@@ -6,8 +6,8 @@ use std::test::Fail;
 use type_rules::check_type;
 use type_sizes::capped_weight;
 use type_trees::{
-    AliasType, ArrayType, Base, Case, Elem, EnumType, Literal, Member, Name, SeqType, StructType,
-    UnionType, Value, XType,
+    AliasType, ArrayType, Base, Case, Elem, EnumType, Flag, Literal, MaskType, Member, Name,
+    SeqType, StructType, UnionType, Value, XType,
 };
 use type_values::has_type;
 use xt_lists::{OutOfMemory, Row, Text};
@@ -120,6 +120,21 @@ fn enumeration(alloc: Global) -> Made<XType> {
     Ok(XType::Enum(Box::new(alloc, kind)?))
 }
 
+/// A bitmask of 64 bits, with the last of its flags.
+fn bitmask(alloc: Global) -> Made<XType> {
+    let mut flags = Row::new(alloc);
+    flags.push(Flag {
+        name: named(alloc, "LAST")?,
+        position: 63,
+    })?;
+    let kind = MaskType {
+        name: None,
+        bits: 64,
+        flags,
+    };
+    Ok(XType::Mask(Box::new(alloc, kind)?))
+}
+
 /// A union over that enumeration, with a case of this label.
 fn union(alloc: Global, label: i32) -> Made<XType> {
     let mut labels = Row::new(alloc);
@@ -181,6 +196,9 @@ fn values_that_no_text_means(rt: HostRuntime) -> Result<(), Fail> {
     let double = XType::Prim(Prim::Float64);
     assert!(rt; has_type(&double, &Value::Int(18_446_744_073_709_551_615)));
     assert!(rt; !has_type(&double, &Value::Int(18_446_744_073_709_551_616)));
+    let mask = bitmask(alloc)?;
+    assert!(rt; has_type(&mask, &Value::Int(18_446_744_073_709_551_615)));
+    assert!(rt; !has_type(&mask, &Value::Int(18_446_744_073_709_551_616)));
     assert_eq!(rt; capped_weight(&array_of_none(alloc)?), 1);
     Ok(())
 }
