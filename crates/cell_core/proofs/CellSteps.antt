@@ -50,14 +50,6 @@ pub reaches_stays : (before after : Cells) → Stays before after → (id : Hash
 reaches_stays before after s id [] p r = r
 reaches_stays before after s id (q ∷ ps) p r = elim r [ inl e ↦ inl e | inr t ↦ inr ((t.0.0, s q t.0.0 t.0.1, t.0.2), reaches_stays before after s id ps p t.1) ]
 
-pub same_id_tells : (a b : HashId) → ((same_id a b ≡ true) × (a ≡ b)) ⊎ ((same_id a b ≡ false) × (a ≢ b))
-same_id_tells a b = by (nat_eq a.kind b.kind) (bytes_eq a.hash b.hash) refl refl
-  where
-    by : (s t : Bool) → nat_eq a.kind b.kind ≡ s → bytes_eq a.hash b.hash ≡ t → ((same_id a b ≡ true) × (a ≡ b)) ⊎ ((same_id a b ≡ false) × (a ≢ b))
-    by true true e f = let k : a.kind ≡ b.kind = eqb-true a.kind b.kind e in let h : a.hash ≡ b.hash = (bytes_eq-Decides a.hash b.hash).0 f in inl ((λ i. e i && f i), λ i. record { kind = k i; hash = h i })
-    by false t e f = inr ((λ i. e i && bytes_eq a.hash b.hash), λ w. eqb-false a.kind b.kind e (ap (λ x. x.kind) w))
-    by true false e f = inr ((λ i. e i && f i), λ w. true≢false (sym ((bytes_eq-Decides a.hash b.hash).1 (ap (λ x. x.hash) w)) ∙ f))
-
 is_at_true : (p q : Place) → is_at p q ≡ true → p ≡ q
 is_at_true p q = by (nat_eq p.0 q.0) (nat_eq p.1 q.1) refl refl
   where

@@ -7,7 +7,8 @@ use Rattle.cell_core.specs.declared.event.Event.{Event}
 use Rattle.cell_core.specs.Probes.{Place, probes}
 use Rattle.cell_core.specs.Cells.{Held, cells, met, met_full, first_with, AreLawful}
 use Rattle.cell_core.specs.Finds.{Choose, Shows, FindsOver, Finds}
-use Rattle.cell_core.proofs.CellSteps.{cells_take, cells_of_take, same_id_tells, same_held, one_cell}
+use Rattle.type_trees.proofs.SameIds.{same_id_tells}
+use Rattle.cell_core.proofs.CellSteps.{cells_take, cells_of_take, same_held, one_cell}
 
 -- a find that begins after the identifier is found answers that object
 pub found_answered : (events : List Event) (id : HashId) (start : ℕ) (ps : List Place) (from : ℕ) (positions : List ℕ) (answer : Option ℕ) (object : ℕ)

@@ -1,4 +1,3 @@
-pub mod SameIds
 pub mod Founds
 pub mod Noted
 pub mod Added

@@ -12,7 +12,7 @@ use Rattle.type_object.specs.Names.{named}
 use Rattle.type_object.specs.Pools.{Texts, IsObject, IsPool, found}
 use Rattle.type_object.specs.declared.entry.Entry.{Entry}
 use Rattle.type_object.specs.Entries.{held}
-use Rattle.type_object.proofs.SameIds.{same_is, same_id_itself}
+use Rattle.type_trees.proofs.SameIds.{same_is, same_id_itself}
 
 found_by : (P : HashId → List ℕ → Type 0) (b : Bool) (x : HashId × List ℕ) (xs : Texts) (id : HashId) (bs : List ℕ) → same_id id x.0 ≡ b → P x.0 x.1 → (found id xs ≡ Some bs → P id bs) → cond b (Some x.1) (found id xs) ≡ Some bs → P id bs
 found_by P true x xs id bs s h more e = let text : x.1 ≡ bs = cc in subst (λ (i : HashId). P i bs) (sym (same_is id x.0 s)) (subst (P x.0) text h)

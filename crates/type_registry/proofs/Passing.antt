@@ -8,7 +8,7 @@ use mathlib.Core.Bool.{true≢false}
 use Rattle.std.proofs.lemmas.List.Elements.{All-head, All-tail, All-push}
 use Rattle.type_trees.specs.declared.types.HashId.{HashId}
 use Rattle.type_trees.specs.Ids.{same_id}
-use Rattle.type_object.proofs.SameIds.{same_id_tells}
+use Rattle.type_trees.proofs.SameIds.{same_id_tells}
 use Rattle.type_registry.specs.Held.{Held}
 use Rattle.type_registry.specs.Found.{Found, IsFinding}
 use Rattle.type_registry.specs.Passed.{PassView, Occupied, known, Grows, IsFull, IsFindingOf, IsFullOf, IsPass, Learns, LearnsFull}

@@ -9,7 +9,7 @@ use Rattle.object_formats.specs.Objects.{Object}
 use Rattle.object_formats.specs.Tables.{object_of}
 use Rattle.type_trees.specs.Ids.{same_id}
 use Rattle.type_object.specs.Names.{named}
-use Rattle.type_object.proofs.SameIds.{same_id_itself}
+use Rattle.type_trees.proofs.SameIds.{same_id_itself}
 use Rattle.type_object.specs.Pools.{Texts, Refusal, clash, full, found, put, added, added_so}
 use Rattle.type_resolve.specs.Adding.{after_added, all_added}
 use Rattle.type_resolve.specs.Held.{IsHeld, AreHeld, Keeps, AddedAreHeld}

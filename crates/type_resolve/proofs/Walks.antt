@@ -16,7 +16,7 @@ use Rattle.object_formats.specs.Objects.{Identifier, MemberPart, CasePart, Objec
 use Rattle.object_formats.specs.Tables.{text_of}
 use Rattle.type_trees.specs.Ids.{same_id}
 use Rattle.type_object.specs.Names.{named}
-use Rattle.type_object.proofs.SameIds.{same_is}
+use Rattle.type_trees.proofs.SameIds.{same_is}
 use Rattle.type_object.specs.Pools.{Texts, object_at}
 use Rattle.type_object.specs.References.{is_among}
 use Rattle.object_walks.specs.Resolving as r

@@ -1,3 +1,5 @@
 pub mod Views
 pub mod Shapes
 pub mod Steps
+pub mod SameIds
+pub mod Labels

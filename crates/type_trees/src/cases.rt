@@ -1,4 +1,4 @@
-ghost use Rattle.std.specs.Prelude.{◌≡◌, IfSome, Contains};
+ghost use Rattle.std.specs.Prelude.{◌≡◌, IfSome, Contains, IsTrue};
 ghost use Rattle.std.specs.Ordering.{int_eq};
 ghost use Rattle.std.specs.Option.{option_map};
 ghost use Rattle.xt_shapes.specs.Lists.{has};
@@ -7,8 +7,17 @@ ghost use Rattle.type_trees.specs.Bridge.{type_shape, cases_shape, members_shape
 
 use crate::types::{Case, Member};
 
-/// Whether the number is among the labels.
-pub fn is_label(labels: &[i32], number: i128) -> bool
+// Whether halving comes to the label, as it does wherever it is there and the labels rise.
+fn is_met(labels: &[i32], label: &i32) -> bool
+    ensures { IsTrue result → IsTrue (has (int_eq label.now) labels.now) }
+{
+    match labels.binary_search(label) {
+        Ok(_) => true,
+        Err(_) => false,
+    }
+}
+
+fn is_listed(labels: &[i32], number: i128) -> bool
     ensures { result ≡ has (int_eq number) labels.now }
 {
     for label in labels {
@@ -17,6 +26,16 @@ pub fn is_label(labels: &[i32], number: i128) -> bool
         }
     }
     false
+}
+
+/// Whether the number is among the labels. Where they rise and it is, it is found by halving; else they are gone through.
+pub fn is_label(labels: &[i32], number: i128) -> bool
+    ensures { result ≡ has (int_eq number) labels.now }
+{
+    match i32::try_from(number) {
+        Ok(label) if is_met(labels, &label) => true,
+        _ => is_listed(labels, number),
+    }
 }
 
 #[tactic(auto, using(crate::proofs::Views::tree_rules))]

@@ -2,11 +2,11 @@
 //! below it have; their own pages say how each is defined and proved.
 //!
 //! `check_type` says whether a type is valid, which `decode2`, `project` and the calls for JSON ask as it stands. The laws
-//! `is_within_limits`, `shape_keeps_rules` and `each_rule_holds` make of it what other calls ask: the limits of `weight` and
-//! `judge`, the rules at each node of the shape, and those that speak of a type's own node.
+//! `is_within_limits`, `shape_keeps_rules`, `each_rule_holds` and `each_part_is_valid` make of it what other calls ask: the limits of
+//! `weight` and `judge`, the rules at each node of the shape, those that speak of a type's own node, and that its parts are valid.
 #![tactic(auto)]
 
-pub use rule_laws::each_rule_holds;
+pub use rule_laws::{each_part_is_valid, each_rule_holds};
 pub use type_rules::{TypeFault, check_type, is_within_limits, shape_keeps_rules};
 pub use type_sizes::weight;
 pub use type_trees::{
