@@ -298,13 +298,19 @@ unfoldable pub flag : Bool → Format ObjectFlag
 flag complete = part (λ x. record { position = x.0; name = x.1 }) (λ r. Some (r.position, r.name))
     (counted (both (num 2 2) (before no_flags (name complete))))
 
+abbrev pub member_fields : Bool → Format (ℕ × (ℕ × (Identifier × Name)))
+member_fields complete = both (num 4 4) (both (flags_of member_flags) (both (identifier complete) (name complete)))
+
 unfoldable pub member : Bool → Format MemberPart
 member complete = part (λ x. record { id = x.0; flags = x.1.0; ty = x.1.1.0; name = x.1.1.1 }) (λ r. Some (r.id, (r.flags, (r.ty, r.name))))
-    (counted (both (num 4 4) (both (flags_of member_flags) (both (identifier complete) (name complete)))))
+    (counted (member_fields complete))
+
+abbrev pub case_fields : Bool → Format (ℕ × (ℕ × (Identifier × (List ℤ × Name))))
+case_fields complete = both (num 4 4) (both (flags_of case_flags) (both (identifier complete) (both (several signed) (name complete))))
 
 unfoldable pub case : Bool → Format CasePart
 case complete = part (λ x. record { id = x.0; flags = x.1.0; ty = x.1.1.0; labels = x.1.1.1.0; name = x.1.1.1.1 }) (λ r. Some (r.id, (r.flags, (r.ty, (r.labels, r.name)))))
-    (counted (both (num 4 4) (both (flags_of case_flags) (both (identifier complete) (both (several signed) (name complete))))))
+    (counted (case_fields complete))
 
 abbrev pub listed : {A : Type 0} → Format A → Format (List A)
 listed f = counted (several f)

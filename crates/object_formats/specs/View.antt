@@ -1,5 +1,6 @@
 -- What the program's objects stand for, and what its readers give.
-use Rattle.std.specs.Prelude.{◌≡◌, map, Result, Ok, Err}
+use Rattle.std.specs.Prelude.{◌≡◌, ℕ, ℤ, List, map, Result, Ok, Err}
+use Rattle.type_trees.specs.declared.types.Name.{Name}
 use Rattle.object_formats.specs.declared.faults.Fault.{Fault}
 use Rattle.object_formats.specs.declared.faults.ObjectFault.{ObjectFault}
 use Rattle.object_formats.specs.declared.faults.ObjectFault.TheVariants as faults
@@ -27,6 +28,13 @@ identifier = fold-TypeIdentifier _ identifier_level
 
 abbrev pub member : ObjectMember → MemberPart
 member m = record { id = m.id; flags = m.flags; ty = identifier m.ty; name = m.name }
+
+-- the fields of a member and of a case, in the order of their octets
+abbrev pub member_fields : ObjectMember → ℕ × (ℕ × (Identifier × Name))
+member_fields m = (m.id, (m.flags, (identifier m.ty, m.name)))
+
+abbrev pub case_fields : ObjectCase → ℕ × (ℕ × (Identifier × (List ℤ × Name)))
+case_fields c = (c.id, (c.flags, (identifier c.ty, (c.labels, c.name))))
 
 abbrev pub case : ObjectCase → CasePart
 case c = record { id = c.id; flags = c.flags; ty = identifier c.ty; labels = c.labels; name = c.name }

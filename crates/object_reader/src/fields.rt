@@ -2,7 +2,6 @@ ghost use Rattle.std.specs.Prelude.{◌≡◌, IfOk, ◌++◌, ◌∷◌, []};
 ghost use Rattle.object_formats.specs.declared.faults.ObjectRule.TheVariants.{Annotation};
 ghost use Rattle.object_formats.specs.Format.{text, has_nul, ended, exactly};
 ghost use Rattle.object_formats.specs.Tables.{allowed, flags_of, no_flags, no_annotations, name, detail, closing, signed, extends};
-ghost use Rattle.object_formats.specs.Octets.{with_sign};
 ghost use Rattle.object_reader.specs.Reading.{Reads, ahead};
 
 use crate::reader::Reader;
@@ -170,22 +169,11 @@ impl<'a> Reader<'a> {
         Ok(Some(self.text(alloc)?))
     }
 
-    #[tactic(auto, unfolding(object_formats::specs::Tables::signed))]
+    #[tactic(auto, unfolding(object_formats::specs::Tables::signed, object_formats::specs::Octets::with_sign))]
     pub(crate) fn signed(&mut self) -> Result<i32, ObjectFault>
         ensures { Reads (λ x. x) signed (ahead self.old) result (ahead self.new) }
     {
         let number = self.word()?;
-        Ok(with_sign(number))
-    }
-}
-
-#[tactic(auto, unfolding(object_formats::specs::Octets::with_sign))]
-fn with_sign(number: u32) -> i32
-    ensures { result ≡ with_sign number }
-{
-    if number < 0x8000_0000 {
-        number as i32
-    } else {
-        -((u32::MAX - number) as i32) - 1
+        Ok(number.cast_signed())
     }
 }

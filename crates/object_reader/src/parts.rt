@@ -104,7 +104,7 @@ impl<'a> Reader<'a> {
     }
 
     fn member_parts(&mut self, alloc: Global, complete: bool) -> Result<ObjectMember, ObjectFault>
-        ensures { Reads (λ x. (x.id, (x.flags, (view.identifier x.ty, x.name)))) (both (num 4 4) (both (spec.flags_of spec.member_flags) (both (spec.identifier complete) (spec.name complete)))) (ahead self.old) result (ahead self.new) }
+        ensures { Reads view.member_fields (spec.member_fields complete) (ahead self.old) result (ahead self.new) }
     {
         let id = self.word()?;
         let flags = self.flags(complete, Flags::Member)?;
@@ -119,7 +119,7 @@ impl<'a> Reader<'a> {
     }
 
     fn case_parts(&mut self, alloc: Global, complete: bool) -> Result<ObjectCase, ObjectFault>
-        ensures { Reads (λ x. (x.id, (x.flags, (view.identifier x.ty, (x.labels, x.name))))) (both (num 4 4) (both (spec.flags_of spec.case_flags) (both (spec.identifier complete) (both (several spec.signed) (spec.name complete))))) (ahead self.old) result (ahead self.new) }
+        ensures { Reads view.case_fields (spec.case_fields complete) (ahead self.old) result (ahead self.new) }
     {
         let id = self.word()?;
         let flags = self.flags(complete, Flags::Case)?;

@@ -75,7 +75,7 @@ impl Writer {
     }
 
     fn member_parts(&mut self, complete: bool, member: &ObjectMember) -> Result<(), OutOfMemory>
-        ensures { Writes (both (num 4 4) (both (spec.flags_of spec.member_flags) (both (spec.identifier complete) (spec.name complete)))) (member.now.id, (member.now.flags, (view.identifier member.now.ty, member.now.name))) self.old result self.new }
+        ensures { Writes (spec.member_fields complete) (view.member_fields member.now) self.old result self.new }
     {
         self.word(member.id)?;
         self.half(member.flags)?;
@@ -84,7 +84,7 @@ impl Writer {
     }
 
     fn case_parts(&mut self, complete: bool, case: &ObjectCase) -> Result<(), OutOfMemory>
-        ensures { Writes (both (num 4 4) (both (spec.flags_of spec.case_flags) (both (spec.identifier complete) (both (several spec.signed) (spec.name complete))))) (case.now.id, (case.now.flags, (view.identifier case.now.ty, (case.now.labels, case.now.name)))) self.old result self.new }
+        ensures { Writes (spec.case_fields complete) (view.case_fields case.now) self.old result self.new }
     {
         self.word(case.id)?;
         self.half(case.flags)?;

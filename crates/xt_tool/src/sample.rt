@@ -49,6 +49,7 @@ fn order_of(first: u8, second: u8) -> Option<Order>
     }
 }
 
+#[tactic(auto, unfolding(xcdr_model::specs::Numbers::with_sign))]
 fn body_long(order: Order, body: &[u8]) -> Result<i32, Fault>
     ensures { result ≡ long_of_body order body.now }
 {
@@ -58,7 +59,7 @@ fn body_long(order: Order, body: &[u8]) -> Result<i32, Fault>
     if body.len() > 4 {
         return fault(8, Why::Trailing);
     }
-    Ok(with_sign(number_of(order, [body[0], body[1], body[2], body[3]])))
+    Ok(number_of(order, [body[0], body[1], body[2], body[3]]).cast_signed())
 }
 
 #[tactic(auto, unfolding(xcdr_model::specs::Numbers::number))]
@@ -77,16 +78,4 @@ fn low_number(first: u8, second: u8, third: u8, fourth: u8) -> u32
 {
     u32::from(first)
         + 256 * (u32::from(second) + 256 * (u32::from(third) + 256 * u32::from(fourth)))
-}
-
-// The number with sign that has these octets.
-#[tactic(auto, unfolding(xcdr_model::specs::Numbers::with_sign))]
-fn with_sign(number: u32) -> i32
-    ensures { result ≡ numbers.with_sign 4 true number }
-{
-    if number < 0x8000_0000 {
-        number as i32
-    } else {
-        -1 - (0xFFFF_FFFF - number) as i32
-    }
 }
