@@ -1,0 +1,4 @@
+pub mod Failing
+pub mod Heads
+pub mod MarkSteps
+pub mod PlaceSteps

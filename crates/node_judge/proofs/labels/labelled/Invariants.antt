@@ -1,0 +1,7 @@
+use Rattle.std.proofs.Common.{◌≡◌, drop, map}
+use Rattle.node_judge.specs.Bare.{bare_cases}
+use Rattle.xt_shapes.specs.Select.{labelled}
+use Rattle.node_judge.proofs.labels.labelled.Given as goal
+
+abbrev pub invariant-loop-case : goal.invariant-loop-case
+invariant-loop-case g l = labelled (bare_cases (map g.T.CaseView.head_of (drop l.case-index l.cases))) l.number ≡ labelled (bare_cases (map g.T.CaseView.head_of l.cases)) l.number
