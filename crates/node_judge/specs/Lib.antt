@@ -1,3 +1,4 @@
 pub mod Marks
 pub mod Bare
 pub mod AtNode
+pub mod Objects

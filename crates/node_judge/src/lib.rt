@@ -9,6 +9,7 @@ mod labels;
 mod literals;
 mod marks;
 mod members;
+mod objects;
 mod trees;
 mod views;
 

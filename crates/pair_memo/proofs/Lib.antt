@@ -1,0 +1,4 @@
+pub mod SameKeys
+pub mod Kept
+pub mod Reaching
+pub mod Bound

@@ -1,0 +1,3 @@
+pub mod Entries
+pub mod Memos
+pub mod Bound

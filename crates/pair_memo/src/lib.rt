@@ -1,0 +1,13 @@
+//! What an examination of pairs of identifiers keeps: which identifiers each side reaches, what was found of each pair, and how many
+//! pairs were examined.
+#![tactic(auto)]
+
+mod laws;
+mod memo;
+mod reach;
+mod steps;
+
+pub use laws::notes_are_few;
+pub use memo::{Kind, Memo, Pair, State};
+pub use reach::{Reach, reach};
+pub use steps::Steps;
