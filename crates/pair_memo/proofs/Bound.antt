@@ -82,11 +82,11 @@ module _ (q : Pair) where
   in_rows [] ys e h = absurd (false≢true e)
   in_rows (x ∷ xs) ys e h = list_any-append (same_pair q) (row q.kind x ys) (rows q.kind xs ys) ∙ either x xs ys (same_id q.left x) refl h (λ f. in_rows xs ys f h) e
 
-  among_first : (as bs : List Pair) → list_any (same_pair q) as ≡ true → list_any (same_pair q) (as ++ bs) ≡ true
-  among_first as bs h = list_any-append (same_pair q) as bs ∙ or_first _ _ h
+  among_first : (ps bs : List Pair) → list_any (same_pair q) ps ≡ true → list_any (same_pair q) (ps ++ bs) ≡ true
+  among_first ps bs h = list_any-append (same_pair q) ps bs ∙ or_first _ _ h
 
-  among_second : (as bs : List Pair) → list_any (same_pair q) bs ≡ true → list_any (same_pair q) (as ++ bs) ≡ true
-  among_second as bs h = list_any-append (same_pair q) as bs ∙ or_second (list_any (same_pair q) as) (list_any (same_pair q) bs) h
+  among_second : (ps bs : List Pair) → list_any (same_pair q) bs ≡ true → list_any (same_pair q) (ps ++ bs) ≡ true
+  among_second ps bs h = list_any-append (same_pair q) ps bs ∙ or_second (list_any (same_pair q) ps) (list_any (same_pair q) bs) h
 
   in_all_by : (xs ys : List HashId) (kind : Kind) → list_any (same_pair q) (rows kind xs ys) ≡ true → list_any (same_pair q) (all_pairs xs ys) ≡ true
   in_all_by xs ys k.Top h = among_first (rows k.Top xs ys) _ h

@@ -9,5 +9,5 @@ mod steps;
 
 pub use laws::notes_are_few;
 pub use memo::{Kind, Memo, Pair, State};
-pub use reach::{Reach, reach};
+pub use reach::Reach;
 pub use steps::Steps;

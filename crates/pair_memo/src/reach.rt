@@ -30,6 +30,21 @@ impl Model for Reach {
 }
 
 impl Reach {
+    /// The identifiers that are reached from one, the nearest first. They are all that there are, unless some have no object.
+    pub fn gather(alloc: Global, pool: &Pool, asked: &HashId) -> Result<Reach, OutOfMemory>
+        ensures { IfOk result (All (λ id. IsReached pool.now asked.now id)) }
+    {
+        let mut ids = IndexSet::new(alloc);
+        ids.insert(*asked)?;
+        for at in 0..MOST {
+            match next(&ids, at) {
+                None => return Ok(Reach { ids }),
+                Some(id) => add_parts(alloc, pool, &mut ids, &id)?,
+            }
+        }
+        Ok(Reach { ids })
+    }
+
     /// Whether the identifier is among them.
     #[tactic(auto, using(crate::proofs::Reaching::among_keys))]
     pub fn has(&self, id: &HashId) -> bool
@@ -37,21 +52,6 @@ impl Reach {
     {
         self.ids.contains(id)
     }
-}
-
-/// The identifiers that are reached from one, the nearest first. They are all that there are, unless some have no object.
-pub fn reach(alloc: Global, pool: &Pool, asked: &HashId) -> Result<Reach, OutOfMemory>
-    ensures { IfOk result (All (λ id. IsReached pool.now asked.now id)) }
-{
-    let mut ids = IndexSet::new(alloc);
-    ids.insert(*asked)?;
-    for at in 0..MOST {
-        match next(&ids, at) {
-            None => return Ok(Reach { ids }),
-            Some(id) => add_parts(alloc, pool, &mut ids, &id)?,
-        }
-    }
-    Ok(Reach { ids })
 }
 
 fn next(ids: &IndexSet<HashId>, at: usize) -> Option<HashId>
