@@ -25,7 +25,7 @@ use Rattle.xcdr_model.specs.Keys.{key_fit}
 use Rattle.xcdr_model.specs.Rules.{same_place, same_places, has_label}
 use Rattle.xcdr_model.specs.Failure.{First, label_failure, is_case, is_selected, is_met, case_pair, all_labels, default_failure, and_then, step, if_some, strong, key_failure, first_of, failure, index_failure, id_failure, case_failure}
 use Rattle.assignability.specs.Met.{is_met_by}
-use Rattle.assignability.proofs.Failing.{if_some_some, case_pair_is, and_then_none, and_then_some, key_failure_none, key_failure_step, index_failure_left, index_failure_right, index_failure_step, id_failure_none, id_failure_step, case_failure_none, case_failure_step, first_of_none, first_of_step}
+use Rattle.node_judge.proofs.Failing.{if_some_some, case_pair_is, and_then_none, and_then_some, key_failure_none, key_failure_step, index_failure_left, index_failure_right, index_failure_step, id_failure_none, id_failure_step, case_failure_none, case_failure_step, first_of_none, first_of_step}
 
 pub index_step : (q : Policy) (r : Rep) (ms ns : List Member) (i : ℕ) (m n : Member) → i < length ms → i < length ns → m ≡ get_or ms i m → n ≡ get_or ns i n
     → index_failure q r (members_shape (drop i ms)) (members_shape (drop i ns))
@@ -132,20 +132,6 @@ side_step f cs i c within is = rw (cases_shape_at cs i c within is) (first_of_ap
 pub side_end : (f : ℤ → First) (cs : List Case) (i : ℕ) → length cs ≤ i → first_of f (all_labels (cases_shape (drop i cs))) ≡ None
 side_end f cs i past = rw (drop_all i cs past) (first_of_none f)
 
--- members side by side
-pub places_step : (b : Bool) (ms ns : List Member) (i : ℕ) (m n : Member) → i < length ms → i < length ns → m ≡ get_or ms i m → n ≡ get_or ns i n → b ≡ same_place (member_head m) (member_head n)
-    → same_places (members_shape (drop i ms)) (members_shape (drop i ns)) ≡ (b && same_places (members_shape (drop (i + 1) ms)) (members_shape (drop (i + 1) ns)))
-places_step b ms ns i m n p p2 is_m is_n is = rw (members_shape_at ms i m p is_m, members_shape_at ns i n p2 is_n, is) refl
-
-places_nothing : (ms : Members) → same_places ms no_members ≡ true
-places_nothing no_members = refl
-places_nothing (member h t ms) = refl
-
-pub places_end_left : (ms ns : List Member) (i : ℕ) → length ms ≤ i → same_places (members_shape (drop i ms)) (members_shape (drop i ns)) ≡ true
-places_end_left ms ns i past = rw (drop_all i ms past) refl
-
-pub places_end_right : (ms ns : List Member) (i : ℕ) → length ns ≤ i → same_places (members_shape (drop i ms)) (members_shape (drop i ns)) ≡ true
-places_end_right ms ns i past = rw (drop_all i ns past) (places_nothing (members_shape (drop i ms)))
 
 pub depth_positive : (t : Tree) → 1 ≤ depth t
 depth_positive (trees.prim p) = omega arith

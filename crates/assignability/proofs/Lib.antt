@@ -1,6 +1,5 @@
 pub mod Pairs
 pub mod YesSteps
-pub mod MarkSteps
+pub mod Heads
 pub mod KeySteps
-pub mod Failing
 pub mod FailureSteps

@@ -11,16 +11,6 @@ both_false : (b : Bool) → (b && false) ≡ false
 both_false true = refl
 both_false false = refl
 
-pub each_unequal : {A B : Type 0} (f : B → B → Bool) (g : A → B) (xs ys : List A) → (length xs ≡ length ys → ⊥) → each_pair f (map g xs) (map g ys) ≡ false
-each_unequal f g [] [] h = absurd (h refl)
-each_unequal f g [] (y ∷ ys) h = refl
-each_unequal f g (x ∷ xs) [] h = refl
-each_unequal f g (x ∷ xs) (y ∷ ys) h = rw (each_unequal f g xs ys (λ e. h (ap suc e))) (both_false _)
-
-pub each_step : {A B : Type 0} (f : B → B → Bool) (g : A → B) (b : Bool) (xs ys : List A) (i : ℕ) (x y : A) → i < length xs → i < length ys → x ≡ get_or xs i x → y ≡ get_or ys i y → b ≡ f (g x) (g y)
-    → each_pair f (map g (drop i xs)) (map g (drop i ys)) ≡ (b && each_pair f (map g (drop (i + 1) xs)) (map g (drop (i + 1) ys)))
-each_step f g b xs ys i x y p q is_x is_y is = rw (drop_more xs i x p, drop_more ys i y q, ← is_x, ← is_y, is) refl
-
 pub members_unequal : (ms ns : List Member) → (length ms ≡ length ns → ⊥) → same_members (members_shape ms) (members_shape ns) ≡ false
 members_unequal [] [] h = absurd (h refl)
 members_unequal [] (n ∷ ns) h = refl

@@ -2,37 +2,9 @@ ghost use Rattle.std.specs.Prelude.{◌≡◌};
 ghost use Rattle.xcdr_model.specs.Rules as spec;
 ghost use Rattle.type_trees.specs.Bridge.{type_shape};
 
+use node_judge::{structure_delimited, union_delimited};
 use type_trees::XType;
-use xt_shapes::{Ext, Rep};
-
-fn is_xcdr2(rep: Rep) -> bool
-    ensures { result ≡ spec.is_xcdr2 rep }
-{
-    match rep {
-        Rep::Xcdr1 => false,
-        Rep::Xcdr2 => true,
-    }
-}
-
-fn structure_delimited(rep: Rep, ext: Ext) -> bool
-    ensures { result ≡ spec.structure_delimited rep ext }
-{
-    match ext {
-        Ext::Final => false,
-        Ext::Appendable => is_xcdr2(rep),
-        Ext::Mutable => true,
-    }
-}
-
-fn union_delimited(rep: Rep, ext: Ext) -> bool
-    ensures { result ≡ spec.union_delimited rep ext }
-{
-    match ext {
-        Ext::Final => false,
-        Ext::Appendable => is_xcdr2(rep),
-        Ext::Mutable => false,
-    }
-}
+use xt_shapes::Rep;
 
 /// Whether a longer or shorter value of `ty` can be told from what follows it.
 #[tactic(auto, using(type_trees::proofs::Views::tree_rules))]

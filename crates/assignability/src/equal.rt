@@ -1,97 +1,14 @@
-ghost use Rattle.std.specs.Prelude.{◌≡◌, ◌&&◌, map};
-ghost use Rattle.std.specs.Ordering.{int_eq};
-ghost use Rattle.xt_shapes.specs.Kinds as kinds;
+ghost use Rattle.std.specs.Prelude.{◌≡◌, ◌&&◌};
 ghost use Rattle.xcdr_model.specs.Equivalence as spec;
-ghost use Rattle.type_trees.specs.Bridge.{type_shape, members_shape, cases_shape, literal_shape, flag_shape, member_head, case_head};
+ghost use Rattle.type_trees.specs.Bridge.{type_shape, members_shape, cases_shape, member_head, case_head};
 ghost use Rattle.xt_shapes.specs.Kinds.{as_array as array_in, as_map as map_in, as_sequence as sequence_in, as_structure as structure_in, as_union as union_in};
 ghost use Rattle.type_trees.specs.Parts.{sequence_parts, array_parts, map_parts, structure_parts, union_parts};
 
+use node_judge::{same_case_head, same_dims, same_flags, same_head, same_literals};
 use type_trees::{
-    Case, Flag, Literal, Member, XType, as_array, as_enum, as_map, as_mask, as_prim, as_seq,
-    as_str, as_struct, as_union, same_name,
+    Case, Member, XType, as_array, as_enum, as_map, as_mask, as_prim, as_seq, as_str, as_struct,
+    as_union,
 };
-use xt_shapes::Ext;
-
-fn same_labels(left: &[i32], right: &[i32]) -> bool
-    ensures { result ≡ spec.each_pair int_eq left.now right.now }
-{
-    left == right
-}
-
-pub(crate) fn same_ext(left: Ext, right: Ext) -> bool
-    ensures { result ≡ kinds.same_ext left right }
-{
-    left == right
-}
-
-pub(crate) fn same_dims(left: &[u32], right: &[u32]) -> bool
-    ensures { result ≡ spec.same_dims left.now right.now }
-{
-    left == right
-}
-
-fn same_literal(left: &Literal, right: &Literal) -> bool
-    ensures { result ≡ spec.same_literal (literal_shape left.now) (literal_shape right.now) }
-{
-    left.value == right.value
-        && left.is_default == right.is_default
-        && same_name(&left.name, &right.name)
-}
-
-fn same_literals(left: &[Literal], right: &[Literal]) -> bool
-    ensures { result ≡ spec.each_pair spec.same_literal (map literal_shape left.now) (map literal_shape right.now) }
-{
-    if left.len() != right.len() {
-        return false;
-    }
-    for at in 0..left.len() {
-        if !same_literal(&left[at], &right[at]) {
-            return false;
-        }
-    }
-    true
-}
-
-fn same_flag(left: &Flag, right: &Flag) -> bool
-    ensures { result ≡ spec.same_flag (flag_shape left.now) (flag_shape right.now) }
-{
-    left.position == right.position && same_name(&left.name, &right.name)
-}
-
-fn same_flags(left: &[Flag], right: &[Flag]) -> bool
-    ensures { result ≡ spec.each_pair spec.same_flag (map flag_shape left.now) (map flag_shape right.now) }
-{
-    if left.len() != right.len() {
-        return false;
-    }
-    for at in 0..left.len() {
-        if !same_flag(&left[at], &right[at]) {
-            return false;
-        }
-    }
-    true
-}
-
-fn same_head(left: &Member, right: &Member) -> bool
-    ensures { result ≡ spec.same_head (member_head left.now) (member_head right.now) }
-{
-    left.id == right.id
-        && left.tc == right.tc
-        && left.optional == right.optional
-        && left.must_understand == right.must_understand
-        && left.key == right.key
-        && same_name(&left.name, &right.name)
-}
-
-fn same_case_head(left: &Case, right: &Case) -> bool
-    ensures { result ≡ spec.same_case_head (case_head left.now) (case_head right.now) }
-{
-    left.id == right.id
-        && left.tc == right.tc
-        && left.is_default == right.is_default
-        && same_labels(left.labels.as_slice(), right.labels.as_slice())
-        && same_name(&left.name, &right.name)
-}
 
 #[cycle(equivalent)]
 fn same_member(left: &Member, right: &Member) -> bool

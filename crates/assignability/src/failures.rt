@@ -11,14 +11,14 @@ ghost use Rattle.xt_shapes.specs.Select.{shape_at};
 
 use crate::delimited::delimited;
 use crate::enums::enum_failure;
-use crate::equal::{equivalent, same_dims, same_ext};
-use crate::keys::holds_bound;
-use crate::labels::{has_label, label_sets};
-use crate::members::{common_member, ids_within, needs_within, same_places};
+use crate::equal::equivalent;
 use crate::met::{is_met, is_met_by};
-use crate::names::{same_case_names, same_names};
 use crate::tops::top_failure;
 use crate::verdict::{Failure, beneath, here};
+use node_judge::{
+    common_member, has_label, holds_bound, ids_within, label_sets, needs_within, same_case_names,
+    same_dims, same_ext, same_names, same_places,
+};
 use type_trees::{
     Case, MapType, Member, UnionType, XType, as_array, as_enum, as_map, as_mask, as_prim, as_seq,
     as_str, as_struct, as_union, case_at, default_case, member_at, select,
@@ -27,7 +27,7 @@ use xcdr_model::{Policy, Rule};
 use xt_shapes::{Ext, Rep, Step};
 
 #[cycle(failure)]
-#[tactic(auto, using(crate::proofs::Failing::step_rules))]
+#[tactic(auto, using(node_judge::proofs::Failing::step_rules))]
 fn plain_beneath(
     policy: &Policy,
     rep: Rep,
@@ -46,7 +46,7 @@ fn plain_beneath(
 }
 
 #[cycle(failure)]
-#[tactic(auto, using(crate::proofs::Failing::step_rules, crate::proofs::Failing::strong_is))]
+#[tactic(auto, using(node_judge::proofs::Failing::step_rules, node_judge::proofs::Failing::strong_is))]
 fn strong_beneath(
     policy: &Policy,
     rep: Rep,
@@ -95,7 +95,7 @@ fn index_failure(policy: &Policy, rep: Rep, left: &[Member], right: &[Member]) -
 }
 
 #[cycle(failure)]
-#[tactic(auto, using(crate::proofs::Failing::step_rules))]
+#[tactic(auto, using(node_judge::proofs::Failing::step_rules))]
 fn member_failure(policy: &Policy, rep: Rep, member: &Member, others: &[Member]) -> Option<Failure>
     requires shallow { depth (tree member.now.ty) ≤ 15 }
     ensures value { failure_view result ≡ spec.if_some (shape_at (members_shape others.now) member.now.id) (λ u. spec.step (Step.Member member.now.id) (spec.failure policy.now rep false (type_shape member.now.ty) u)) }
@@ -123,7 +123,7 @@ fn id_failure(policy: &Policy, rep: Rep, left: &[Member], right: &[Member]) -> O
 }
 
 #[cycle(failure)]
-#[tactic(auto, using(crate::proofs::Failing::step_rules, crate::proofs::Failing::end_rules))]
+#[tactic(auto, using(crate::proofs::Heads::head_rules, node_judge::proofs::Failing::step_rules, node_judge::proofs::Failing::end_rules))]
 fn structure_ends(
     policy: &Policy,
     rep: Rep,
@@ -156,7 +156,7 @@ fn structure_ends(
 }
 
 #[cycle(failure)]
-#[tactic(auto, using(crate::proofs::Failing::step_rules, crate::proofs::Failing::structure_rules_is))]
+#[tactic(auto, using(crate::proofs::Heads::head_rules, node_judge::proofs::Failing::step_rules, node_judge::proofs::Failing::structure_rules_is))]
 fn structure_failure(
     policy: &Policy,
     rep: Rep,
@@ -189,7 +189,7 @@ fn structure_failure(
 }
 
 #[cycle(failure)]
-#[tactic(auto, using(crate::proofs::Failing::step_rules))]
+#[tactic(auto, using(node_judge::proofs::Failing::step_rules))]
 fn map_failure(policy: &Policy, rep: Rep, left: &MapType, right: &MapType) -> Option<Failure>
     requires key { depth (tree left.now.key.ty) ≤ 15 }
     requires value { depth (tree left.now.value.ty) ≤ 15 }
@@ -206,7 +206,7 @@ fn map_failure(policy: &Policy, rep: Rep, left: &MapType, right: &MapType) -> Op
 }
 
 #[cycle(failure)]
-#[tactic(auto, using(crate::proofs::Failing::step_rules))]
+#[tactic(auto, using(node_judge::proofs::Failing::step_rules))]
 fn case_beneath(policy: &Policy, rep: Rep, case: &Case, other: Option<&Case>) -> Option<Failure>
     requires shallow { depth (tree case.now.ty) ≤ 15 }
     ensures value { failure_view result ≡ spec.if_some (option_map (λ c. type_shape c.now.ty) other.entry) (λ u. spec.step (Step.Member case.now.id) (spec.failure policy.now rep false (type_shape case.now.ty) u)) }
@@ -241,7 +241,7 @@ fn case_failure(
 
 /// The failure at the cases that `label` selects. No pair of cases is tried again that a label before it selects.
 #[cycle(failure)]
-#[tactic(auto, using(crate::proofs::Failing::step_rules, crate::proofs::Failing::case_pair_is))]
+#[tactic(auto, using(node_judge::proofs::Failing::step_rules, node_judge::proofs::Failing::case_pair_is))]
 fn label_failure(
     policy: &Policy,
     rep: Rep,
@@ -333,7 +333,7 @@ fn side_failure(
 
 /// The failure at the two defaults, unless a label selects them.
 #[cycle(failure)]
-#[tactic(auto, using(crate::proofs::Failing::step_rules))]
+#[tactic(auto, using(node_judge::proofs::Failing::step_rules))]
 fn default_failure(policy: &Policy, rep: Rep, left: &[Case], right: &[Case]) -> Option<Failure>
     requires shallow { cases_depth (cases_tree left.now) ≤ 15 }
     requires left { spec.first_of (spec.label_failure policy.now rep (cases_shape left.now) (cases_shape right.now)) (spec.all_labels (cases_shape left.now)) ≡ None }
@@ -359,7 +359,7 @@ fn default_failure(policy: &Policy, rep: Rep, left: &[Case], right: &[Case]) -> 
 }
 
 #[cycle(failure)]
-#[tactic(auto, using(crate::proofs::Failing::step_rules, crate::proofs::FailureSteps::first_of_append, crate::proofs::Failing::first_of_none))]
+#[tactic(auto, using(node_judge::proofs::Failing::step_rules, crate::proofs::FailureSteps::first_of_append, node_judge::proofs::Failing::first_of_none))]
 fn cases_failure(policy: &Policy, rep: Rep, left: &[Case], right: &[Case]) -> Option<Failure>
     requires { cases_depth (cases_tree left.now) ≤ 15 }
     ensures value { failure_view result ≡ spec.cases_failure policy.now rep (cases_shape left.now) (cases_shape right.now) }
@@ -376,7 +376,7 @@ fn cases_failure(policy: &Policy, rep: Rep, left: &[Case], right: &[Case]) -> Op
 
 /// The rules of unions behind those on the discriminator.
 #[cycle(failure)]
-#[tactic(auto, using(crate::proofs::Failing::step_rules))]
+#[tactic(auto, using(crate::proofs::Heads::head_rules, node_judge::proofs::Failing::step_rules))]
 fn labels_rules(
     policy: &Policy,
     rep: Rep,
@@ -395,7 +395,7 @@ fn labels_rules(
 }
 
 #[cycle(failure)]
-#[tactic(auto, using(crate::proofs::Failing::step_rules))]
+#[tactic(auto, using(crate::proofs::Heads::head_rules, node_judge::proofs::Failing::step_rules))]
 fn union_failure(
     policy: &Policy,
     rep: Rep,
@@ -433,7 +433,7 @@ fn union_failure(
 
 /// The first rule that fails at a pair of types, or in a pair inside.
 #[cycle(failure)]
-#[tactic(auto, using(type_trees::proofs::Views::tree_rules, crate::proofs::Failing::step_rules, crate::proofs::Failing::kind_rules))]
+#[tactic(auto, using(type_trees::proofs::Views::tree_rules, node_judge::proofs::Failing::step_rules, node_judge::proofs::Failing::kind_rules))]
 pub(crate) fn failure(
     policy: &Policy,
     rep: Rep,

@@ -3,34 +3,13 @@ ghost use Rattle.xcdr_model.specs.Keys as spec;
 ghost use Rattle.xt_shapes.specs.Keyable as keyable;
 ghost use Rattle.xt_shapes.specs.NodeRules as rules;
 ghost use Rattle.xt_shapes.specs.Lists.{is_some_and};
-ghost use Rattle.xcdr_model.specs.Rules.{holds_bound as bound_is_held};
 ghost use Rattle.type_trees.specs.Bridge.{type_shape, members_shape, member_head};
 ghost use Rattle.xt_shapes.specs.Select.{shape_at};
 
-use crate::equal::same_dims;
-use crate::labels::values_within;
-use crate::members::{any_key, same_counted};
+use node_judge::{any_key, holds_bound, is_discard, same_counted, same_dims, values_within};
 use type_trees::{
     Member, XType, as_array, as_enum, as_mask, as_prim, as_seq, as_str, as_struct, member_at,
 };
-use xt_shapes::Try;
-
-/// Whether a bound holds what another allows. A bound of 0 is none.
-pub(crate) fn holds_bound(left: u32, right: u32) -> bool
-    ensures { result ≡ bound_is_held left right }
-{
-    left == 0 || (right != 0 && right <= left)
-}
-
-fn is_discard(tc: Try) -> bool
-    ensures { result ≡ rules.is_discard tc }
-{
-    match tc {
-        Try::Discard => true,
-        Try::UseDefault => false,
-        Try::Trim => false,
-    }
-}
 
 fn is_structure(ty: &XType) -> bool
     ensures { result ≡ spec.is_structure (type_shape ty.now) }
@@ -79,6 +58,7 @@ fn keys_fit(keyed: bool, members: &[Member], others: &[Member]) -> bool
 
 /// Whether the same ids are counted, and the types of each counted member fit.
 #[cycle(key_fit)]
+#[tactic(auto, using(crate::proofs::Heads::head_rules))]
 fn members_fit(left: &[Member], right: &[Member]) -> bool
     ensures { let ms = members_shape left.now in let ns = members_shape right.now in result ≡ (spec.same_counted (keyable.any_key ms) ms (keyable.any_key ns) ns && spec.keys_fit (keyable.any_key ms) ms ns) }
 {

@@ -9,8 +9,8 @@ ghost use Rattle.xt_shapes.specs.Lists.{is_some_and};
 ghost use Rattle.xt_shapes.specs.Select.{shape_at};
 
 use crate::keys::has_key_fit;
-use crate::members::same_counted;
 use crate::verdict::{Failure, beneath, here};
+use node_judge::same_counted;
 use type_trees::Member;
 use xcdr_model::Rule;
 use xt_shapes::Step;
@@ -34,7 +34,7 @@ fn key_failure(left: &[Member], right: &[Member]) -> Option<Failure>
 }
 
 /// The rules on keys, which only the top pair has.
-#[tactic(auto, using(crate::proofs::Failing::step_rules))]
+#[tactic(auto, using(node_judge::proofs::Failing::step_rules, crate::proofs::Heads::head_rules))]
 pub(crate) fn top_failure(top: bool, left: &[Member], right: &[Member]) -> Option<Failure>
     ensures value { failure_view result ≡ spec.top_rules top (members_shape left.now) (members_shape right.now) }
     ensures short { IfSome result (λ f. length f.path ≤ members_depth (members_tree left.now)) }

@@ -16,7 +16,7 @@ use xcdr_model::{Policy, Rule};
 use xt_shapes::Rep;
 
 /// The first rule that fails between top types.
-#[tactic(auto, using(crate::proofs::Failing::step_rules))]
+#[tactic(auto, using(node_judge::proofs::Failing::step_rules))]
 fn first_failure(policy: &Policy, rep: Rep, t1: &XType, t2: &XType) -> Option<Failure>
     requires { depth (tree t1.now) ≤ 16 }
     ensures { failure_view result ≡ spec.first_failure policy.now rep (type_shape t1.now) (type_shape t2.now) }

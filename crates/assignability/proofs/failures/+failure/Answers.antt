@@ -3,8 +3,9 @@ use Rattle.std.specs.Option.{option_map}
 use Rattle.type_trees.specs.Bridge.{type_shape, members_shape, cases_shape}
 use Rattle.type_rules.proofs.FaultLoops.{members_deeper, cases_deeper}
 use Rattle.xcdr_model.specs.Failure.{label_failure}
-use Rattle.assignability.proofs.Failing.{first_of_none}
+use Rattle.node_judge.proofs.Failing.{first_of_none}
 use Rattle.assignability.proofs.FailureSteps.{index_step, index_end_left, index_end_right, id_step, id_end, case_found, case_passed, case_end, label_step, label_passed, label_end, label_met, label_met_by, default_met_by, label_tried, side_step, side_end, found_first, passed_first, short_within}
+use Rattle.assignability.proofs.Heads.{label_is}
 use Rattle.assignability.proofs.failures.+failure.Goals as goal
 
 -- members by index
@@ -99,7 +100,7 @@ default_failure-returns-then-is_met_by-2-clause-value t c =
 
 pub label_failure-returns-then-has_label-clause-value : goal.label_failure-returns-then-has_label-clause-value
 label_failure-returns-then-has_label-clause-value t c =
-    label_tried c.args.policy.now c.args.rep (cases_shape c.args.left.now) (cases_shape c.args.right.now) (cases_shape c.args.tried.now) _ c.args.label c.requires.tried c.if-has_label.ensures (search rules)
+    label_tried c.args.policy.now c.args.rep (cases_shape c.args.left.now) (cases_shape c.args.right.now) (cases_shape c.args.tried.now) _ c.args.label c.requires.tried (c.if-has_label.ensures ∙ label_is c.args.tried.now _) (search rules)
 
 pub labels_failure-loop-label-init : goal.labels_failure-loop-label-init
 labels_failure-loop-label-init t c = (refl, first_of_none _, refl)

@@ -1,8 +1,0 @@
-use Rattle.std.proofs.Common.{◌≡◌, map, drop}
-use Rattle.assignability.specs.Marks.{fits}
-use Rattle.assignability.proofs.marks.all_fit.Given as goal
-use Rattle.xt_shapes.specs.Lists.{all}
-
-abbrev pub invariant-loop-other : goal.invariant-loop-other
-invariant-loop-other g l =
-    all (λ mark. all (λ held. fits held mark) l.block) (map g.T.Marked.mark_of (drop l.other-index l.others)) ≡ all (λ mark. all (λ held. fits held mark) l.block) (map g.T.Marked.mark_of l.others)

@@ -1,7 +1,0 @@
-use Rattle.std.proofs.Common.{map, rules}
-use Rattle.assignability.proofs.MarkSteps.{by_columns}
-use Rattle.assignability.proofs.marks.block_fits.Goals as goal
-
-pub returns : goal.returns
-returns g c =
-    by_columns _ _ (map g.T.Marked.mark_of c.args.items.now) (map g.T.Marked.mark_of c.args.others.now) c.all_fit.ensures (search rules)
