@@ -7,7 +7,7 @@ use crate::cases::Case;
 use crate::samples::{body_read, sample_again, sample_read, told};
 use crate::trouble::Trouble;
 use crate::values::{given_value, json_of, pairs_of, string_of, type_of, types_of, value_of};
-use crate::writing::{body_written, sample_faults, sample_written, text_size};
+use crate::writing::{body_written, rep_of, sample_faults, sample_written, text_size};
 use assignability::{Verdict, equivalent, judge, judge_under};
 use dynamic_data::get;
 use std::alloc::Global;
@@ -20,7 +20,6 @@ use type_values::{base_of, copy_type, copy_value, default_value, has_same_keys, 
 use xcdr_model::Policy;
 use xt_idl::{IdlFault, print};
 use xt_lists::{Row, Text};
-use xt_shapes::Rep;
 
 /// The answer of a call over the texts of a case.
 pub fn answer(alloc: Global, call: &str, case: &Case<'_>) -> Result<String, Trouble> {
@@ -200,14 +199,6 @@ fn got(alloc: Global, words: &str, case: &Case<'_>) -> Result<String, Trouble> {
     match get(&ty, &value, names.as_slice()) {
         Some(part) => part_told(alloc, type_at(&ty, names.as_slice()), part),
         None => Ok(String::from_str(alloc, "none")?),
-    }
-}
-
-fn rep_of(word: &str) -> Result<Rep, Trouble> {
-    match word {
-        "xcdr1" => Ok(Rep::Xcdr1),
-        "xcdr2" => Ok(Rep::Xcdr2),
-        _ => Err(Trouble::Words),
     }
 }
 

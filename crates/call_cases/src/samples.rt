@@ -15,7 +15,7 @@ use wire_streams::StreamCursor;
 use xcdr_two_reader::decode2;
 use xcdr_two_samples::read_sample2;
 use xt_io::{BundleReader, Kind, MemSink, MemSource, write_record};
-use xt_shapes::Order;
+use xt_shapes::{Order, Rep};
 
 /// The most octets of a record.
 const MOST_OCTETS: usize = 1_048_576;
@@ -127,7 +127,7 @@ pub fn sample_again(alloc: Global, case: &Case<'_>) -> Result<String, Trouble> {
     let Ok(Outcome::Sample(value)) = read_sample2(alloc, &ty, &mut cursor) else {
         return Ok(String::from_str(alloc, "no sample")?);
     };
-    let written = sample_hex(alloc, &ty, &value, order_of(payload.as_slice()))?;
+    let written = sample_hex(alloc, Rep::Xcdr2, &ty, &value, order_of(payload.as_slice()))?;
     if written.as_str() == hex::encode(alloc, payload.as_slice())?.as_str() {
         return Ok(String::from_str(alloc, "same")?);
     }

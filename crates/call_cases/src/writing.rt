@@ -1,14 +1,21 @@
 //! Samples that are written.
+ghost use Rattle.std.specs.Prelude.{◌≡◌, ◌≤◌};
+ghost use Rattle.type_trees.specs.Bridge.{type_shape};
+ghost use Rattle.type_trees.specs.View.{val};
+ghost use Rattle.xcdr_model.specs.SampleSpelling.{sample_size};
+ghost use Rattle.xcdr_writer.specs.Samples.{sized};
+
 use crate::cases::Case;
 use crate::trouble::Trouble;
 use crate::values::{type_of, value_of};
 use std::alloc::Global;
 use type_trees::{Value, XType};
 use wire_writer::Writer;
+use xcdr_one_writer::{encode1, size1, write_sample1};
 use xcdr_two_writer::{encode_value, encode2, size2, write_sample2};
-use xt_io::MemSink;
+use xt_io::{Failed, MemSink, Sink};
 use xt_lists::Text;
-use xt_shapes::Order;
+use xt_shapes::{Order, Rep};
 
 fn order_named(word: &str) -> Result<Order, Trouble> {
     match word {
@@ -18,18 +25,73 @@ fn order_named(word: &str) -> Result<Order, Trouble> {
     }
 }
 
+pub fn rep_of(word: &str) -> Result<Rep, Trouble> {
+    match word {
+        "xcdr1" => Ok(Rep::Xcdr1),
+        "xcdr2" => Ok(Rep::Xcdr2),
+        _ => Err(Trouble::Words),
+    }
+}
+
+/// The representation and the order that the words name: XCDR2 where they name an order alone.
+fn form_of(words: &str) -> Result<(Rep, Order), Trouble> {
+    match words.split_once(' ') {
+        None => Ok((Rep::Xcdr2, order_named(words)?)),
+        Some((rep, order)) => Ok((rep_of(rep)?, order_named(order)?)),
+    }
+}
+
+fn size_by(rep: Rep, ty: &XType, value: &Value) -> Option<u32>
+    ensures { result ≡ sized (sample_size rep (type_shape ty.now) (val value.now)) }
+{
+    match rep {
+        Rep::Xcdr1 => size1(ty, value),
+        Rep::Xcdr2 => size2(ty, value),
+    }
+}
+
+fn write_by<K: Sink>(
+    rep: Rep,
+    ty: &XType,
+    value: &Value,
+    order: Order,
+    sink: &mut K,
+) -> Result<(), Failed>
+    requires { sample_size rep (type_shape ty.now) (val value.now) ≤ 1048576 }
+{
+    match rep {
+        Rep::Xcdr1 => write_sample1(ty, value, order, sink),
+        Rep::Xcdr2 => write_sample2(ty, value, order, sink),
+    }
+}
+
+fn encode_by<K: Sink>(
+    rep: Rep,
+    ty: &XType,
+    value: &Value,
+    out: &mut Writer<K>,
+) -> Result<(), Failed>
+    requires { sample_size rep (type_shape ty.now) (val value.now) ≤ 1048576 }
+{
+    match rep {
+        Rep::Xcdr1 => encode1(ty, value, out),
+        Rep::Xcdr2 => encode2(ty, value, out),
+    }
+}
+
 /// The sample of a value in hexadecimal, over a sink that takes at most five octets a call.
 pub fn sample_hex(
     alloc: Global,
+    rep: Rep,
     ty: &XType,
     value: &Value,
     order: Order,
 ) -> Result<String, Trouble> {
-    let Some(size) = size2(ty, value) else {
+    let Some(size) = size_by(rep, ty, value) else {
         return Ok(String::from_str(alloc, "too large")?);
     };
     let mut sink = MemSink::new(alloc, 5, &[]);
-    if write_sample2(ty, value, order, &mut sink).is_err() {
+    if write_by(rep, ty, value, order, &mut sink).is_err() {
         return Err(Trouble::OutOfMemory);
     }
     if sink.octets().len() as u64 != u64::from(size) {
@@ -40,47 +102,53 @@ pub fn sample_hex(
 
 /// The octets that the value is written as, in the order that the words name.
 pub fn sample_written(alloc: Global, words: &str, case: &Case<'_>) -> Result<String, Trouble> {
-    let order = order_named(words)?;
+    let (rep, order) = form_of(words)?;
     let ty = type_of(alloc, case.ty)?;
     let value = value_of(alloc, &ty, case.value)?;
-    sample_hex(alloc, &ty, &value, order)
+    sample_hex(alloc, rep, &ty, &value, order)
 }
 
-/// The body that the value is written as, by `encode2` and by `encode_value`.
+/// The body that the value is written as.
 pub fn body_written(alloc: Global, words: &str, case: &Case<'_>) -> Result<String, Trouble> {
-    let order = order_named(words)?;
+    let (rep, order) = form_of(words)?;
     let ty = type_of(alloc, case.ty)?;
     let value = value_of(alloc, &ty, case.value)?;
-    if size2(&ty, &value).is_none() {
+    if size_by(rep, &ty, &value).is_none() {
         return Ok(String::from_str(alloc, "too large")?);
     }
-    let mut body = Writer::new(MemSink::new(alloc, 5, &[]), order);
-    let mut other = Writer::new(MemSink::new(alloc, 5, &[]), order);
-    if encode2(&ty, &value, &mut body).is_err() || encode_value(&ty, &value, &mut other).is_err() {
+    let mut out = Writer::new(MemSink::new(alloc, 5, &[]), order);
+    if encode_by(rep, &ty, &value, &mut out).is_err() {
         return Err(Trouble::OutOfMemory);
     }
-    let body = body.end();
-    if body.octets() != other.end().octets() {
+    let body = out.end();
+    if rep == Rep::Xcdr2 && !is_encoded_as(alloc, &ty, &value, order, body.octets()) {
         return Ok(String::from_str(alloc, "two bodies")?);
     }
     Ok(hex::encode(alloc, body.octets())?)
 }
 
+/// Whether `encode_value` writes this body too.
+fn is_encoded_as(alloc: Global, ty: &XType, value: &Value, order: Order, body: &[u8]) -> bool {
+    let mut out = Writer::new(MemSink::new(alloc, 5, &[]), order);
+    encode_value(ty, value, &mut out).is_ok() && out.end().octets() == body
+}
+
 /// Whether a sink that fails at this call refuses the sample. A beginning of it is written then, else the whole: None where neither is.
 fn is_refused(
     alloc: Global,
+    rep: Rep,
     ty: &XType,
     value: &Value,
     order: Order,
     call: u64,
     whole: &[u8],
 ) -> Option<bool> {
-    if size2(ty, value).is_none() {
+    if size_by(rep, ty, value).is_none() {
         return None;
     }
     let fails = [call];
     let mut sink = MemSink::new(alloc, 3, &fails);
-    if write_sample2(ty, value, order, &mut sink).is_ok() {
+    if write_by(rep, ty, value, order, &mut sink).is_ok() {
         return if sink.octets() == whole {
             Some(false)
         } else {
@@ -95,18 +163,18 @@ fn is_refused(
 
 /// In how many calls the sample is written, of three octets at most. A sink that fails at any of them refuses it.
 pub fn sample_faults(alloc: Global, words: &str, case: &Case<'_>) -> Result<String, Trouble> {
-    let order = order_named(words)?;
+    let (rep, order) = form_of(words)?;
     let ty = type_of(alloc, case.ty)?;
     let value = value_of(alloc, &ty, case.value)?;
-    if size2(&ty, &value).is_none() {
+    if size_by(rep, &ty, &value).is_none() {
         return Ok(String::from_str(alloc, "too large")?);
     }
     let mut whole = MemSink::new(alloc, 3, &[]);
-    if write_sample2(&ty, &value, order, &mut whole).is_err() {
+    if write_by(rep, &ty, &value, order, &mut whole).is_err() {
         return Err(Trouble::OutOfMemory);
     }
     for calls in 0..1_000u64 {
-        match is_refused(alloc, &ty, &value, order, calls + 1, whole.octets()) {
+        match is_refused(alloc, rep, &ty, &value, order, calls + 1, whole.octets()) {
             Some(true) => {}
             Some(false) => return Ok(format!(in alloc; "{calls} calls")?),
             None => return Ok(format!(in alloc; "other octets in {calls} calls")?),

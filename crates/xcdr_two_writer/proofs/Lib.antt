@@ -1,6 +1,0 @@
-pub mod SizeSteps
-pub mod Steady
-pub mod Counts
-pub mod Chains
-pub mod SampleSteps
-pub mod Joining

@@ -1,5 +1,0 @@
-use Rattle.wire_writer.proofs.Puts.{puts_nothing}
-use Rattle.xcdr_two_writer.proofs.encoding.encode_presence.Goals as goal
-
-pub returns-else-optional : goal.returns-else-optional
-returns-else-optional g c = rw c.if-optional.false (puts_nothing c.args.out.now)

@@ -1,0 +1,12 @@
+//! Values and samples written in either representation (DDS-XTypes 1.3, 7.4 and 7.6.3.1.2): their sizes, the octets of values, and whole samples.
+#![tactic(auto)]
+
+mod codes;
+mod encoding;
+mod ends;
+mod forms;
+mod params;
+mod samples;
+
+pub use encoding::encode_value;
+pub use samples::{encode, size_of_sample, write_sample};
