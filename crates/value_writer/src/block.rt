@@ -1,5 +1,5 @@
 //! A block of octets on the stack.
-ghost use Rattle.std.specs.Prelude.{◌≡◌, ◌≤◌, ◌++◌, [], length, nat_lt, take};
+ghost use Rattle.std.specs.Prelude.{◌≡◌, ◌≤◌, ◌++◌, [], ◌∷◌, length, nat_lt, take};
 ghost use Rattle.xcdr_model.specs.Numbers.{octets, low_octets};
 ghost use Rattle.wire_numbers.specs.Units.{IsUnit};
 ghost use Rattle.value_writer.specs.Flushing.{Flushes};
@@ -67,6 +67,15 @@ impl Block {
         self.count += size as usize;
     }
 
+    #[inline(always)]
+    fn add_octet(&mut self, octet: u8)
+        requires { length self.old ≤ 496 }
+        ensures { self.new ≡ self.old ++ octet ∷ [] }
+    {
+        self.octets[self.count] = octet;
+        self.count += 1;
+    }
+
     /// Appends the low `size` octets of a number in the order. `size` is 1, 2, 4 or 8.
     #[inline(always)]
     pub(crate) fn add_number(&mut self, order: Order, size: u32, number: u128)
@@ -75,7 +84,7 @@ impl Block {
         ensures { self.new ≡ self.old ++ octets order size number }
     {
         if size == 1 {
-            return self.add_low(1, number);
+            return self.add_octet((number % 256) as u8);
         }
         match order {
             Order::Little => self.add_low(size, number),
