@@ -1,0 +1,3 @@
+mod Scopes
+pub mod Valued
+pub mod Settled

@@ -1,0 +1,64 @@
+-- Worked words, by computation.
+use Rattle.std.specs.Prelude.{◌≡◌, ℕ, true, false, [], ◌∷◌, Some, None, codes, refl}
+use Rattle.xt_shapes.specs.declared.leaves.Rep.TheVariants.{Xcdr1, Xcdr2}
+use Rattle.xt_io.specs.declared.Kind.TheVariants.{Json}
+use Rattle.xcdr_model.specs.Policies.{standard}
+use Rattle.tool_words.specs.Words.{Form, plain, within, Reference, Command, judge, read, convert, show, wrap, form_of, in_record_form, told, settings, policy_behind, policy_word, policy_of, pair_words, convert_words, write_words, wrap_words, command_by, command_of}
+
+-- all that words unfold
+unfoldable words_read : ℕ
+unfolding in_record_form form_of told settings policy_behind policy_word policy_of pair_words convert_words write_words wrap_words command_by command_of
+words_read = 0
+
+-- ---- types
+
+pub in_a_record : form_of (codes "0/geo::Pose") ≡ Some (within 0 (codes "geo::Pose"))
+unfolding words_read
+in_a_record = refl
+
+pub leading_zero : form_of (codes "00/A") ≡ None
+unfolding words_read
+leading_zero = refl
+
+pub one_colon : form_of (codes "geo:Pose") ≡ None
+unfolding words_read
+one_colon = refl
+
+-- ---- policies
+
+pub no_policy : policy_of [] ≡ Some standard
+unfolding words_read
+no_policy = refl
+
+pub a_policy : policy_of (codes "allow,string-bounds" ∷ []) ≡ Some (record { coercion = true; ignore_string_bounds = false; ignore_sequence_bounds = true; ignore_member_names = false })
+unfolding words_read
+a_policy = refl
+
+pub in_another_order : policy_of (codes "allow,any-names,string-bounds" ∷ []) ≡ None
+unfolding words_read
+in_another_order = refl
+
+-- ---- commands
+
+abbrev a_type : Reference
+a_type = record { word = codes "A"; form = plain (codes "A") }
+
+pub one_type_short : command_of (codes "read" ∷ codes "A" ∷ []) ≡ None
+unfolding words_read
+one_type_short = refl
+
+pub reads : command_of (codes "read" ∷ codes "A" ∷ codes "A" ∷ codes "xcdr2" ∷ []) ≡ Some (read (record { reader = a_type; writer = a_type; rep = Xcdr2; policy = standard }))
+unfolding words_read
+reads = refl
+
+pub converts : command_of (codes "convert" ∷ codes "A" ∷ codes "A" ∷ codes "xcdr1" ∷ codes "xcdr2" ∷ []) ≡ Some (convert (record { reader = a_type; writer = a_type; rep = Xcdr1; policy = standard }) Xcdr2)
+unfolding words_read
+converts = refl
+
+pub wraps_json : command_of (codes "wrap" ∷ codes "json" ∷ []) ≡ Some (wrap Json)
+unfolding words_read
+wraps_json = refl
+
+pub shows_nothing_more : command_of (codes "show" ∷ codes "A" ∷ []) ≡ None
+unfolding words_read
+shows_nothing_more = refl

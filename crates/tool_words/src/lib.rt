@@ -1,0 +1,13 @@
+//! The words of a command line: which command they ask, of which types, and how.
+#![tactic(auto)]
+
+mod commands;
+mod names;
+mod numbers;
+mod policies;
+mod references;
+#[cfg(test)]
+mod tests;
+
+pub use commands::{Command, Pair, command_of};
+pub use references::{Form, Reference, named_by};
