@@ -2,6 +2,8 @@
 #![tactic(auto)]
 
 mod outcomes;
+#[cfg(test)]
+mod tests;
 mod verdicts;
 
 pub use outcomes::{malformed_text, outcome_text};
