@@ -132,7 +132,6 @@ side_step f cs i c within is = rw (cases_shape_at cs i c within is) (first_of_ap
 pub side_end : (f : ℤ → First) (cs : List Case) (i : ℕ) → length cs ≤ i → first_of f (all_labels (cases_shape (drop i cs))) ≡ None
 side_end f cs i past = rw (drop_all i cs past) (first_of_none f)
 
-
 pub depth_positive : (t : Tree) → 1 ≤ depth t
 depth_positive (trees.prim p) = omega arith
 depth_positive (trees.str n) = omega arith

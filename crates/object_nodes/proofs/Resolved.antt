@@ -108,17 +108,19 @@ module _ (pool : Texts) (go : Walk) (test : Test) (see : See) (h : (inside : Lis
       let d = bind_ok (each (r.member go inside) ms b.0.1) (λ ys. Ok (b.0.0 ∷ ys.0, ys.1)) x b.2 in
       let rest = members_agree inside ms b.0.1 d.0 d.1 in
       let all : (b.0.0 ∷ d.0.0, d.0.1) ≡ x = ok_is d.2 in
-      let L : List (Head × Shape) = map (seen_piece see) (map part_in ms) in
-      (and_from (test m.ty) (parts_pass test (map part_in ms)) p.1 rest.0,
-       ap (λ s. ((part_in m).0, s) ∷ L) p.2 ∙ ap (λ y. tree_piece y.0 ∷ L) one ∙ ap (λ l. tree_piece b.0.0 ∷ l) rest.1 ∙ ap (λ y. map tree_piece y.0) all)
+      let L : List (Head × Shape) = map (seen_piece see) (map part_in ms) in (
+        and_from (test m.ty) (parts_pass test (map part_in ms)) p.1 rest.0,
+        ap (λ s. ((part_in m).0, s) ∷ L) p.2 ∙ ap (λ y. tree_piece y.0 ∷ L) one ∙ ap (λ l. tree_piece b.0.0 ∷ l) rest.1 ∙ ap (λ y. map tree_piece y.0) all,
+      )
 
   behind_agrees : (inside : List HashId) (ps : List Part) (before : List (MemberHead × Tree)) (ms : List MemberPart) (n : ℕ) (x : List (MemberHead × Tree) × ℕ) → Agree ps before → behind before (r.members go inside ms n) ≡ Ok x → Agree (ps ++ map part_in ms) x.0
   behind_agrees inside ps before ms n x a e =
       let b = bind_ok (r.members go inside ms n) (λ more. Ok (before ++ more.0, more.1)) x e in
       let rest = members_agree inside ms n b.0 b.1 in
-      let all : (before ++ b.0.0, b.0.1) ≡ x = ok_is b.2 in
-      (pass_append test ps (map part_in ms) a.0 rest.0,
-       map-append (seen_piece see) ps (map part_in ms) ∙ ap (λ l. l ++ map (seen_piece see) (map part_in ms)) a.1 ∙ ap (λ l. map tree_piece before ++ l) rest.1 ∙ sym (map-append tree_piece before b.0.0) ∙ ap (λ y. map tree_piece y.0) all)
+      let all : (before ++ b.0.0, b.0.1) ≡ x = ok_is b.2 in (
+        pass_append test ps (map part_in ms) a.0 rest.0,
+        map-append (seen_piece see) ps (map part_in ms) ∙ ap (λ l. l ++ map (seen_piece see) (map part_in ms)) a.1 ∙ ap (λ l. map tree_piece before ++ l) rest.1 ∙ sym (map-append tree_piece before b.0.0) ∙ ap (λ y. map tree_piece y.0) all,
+      )
 
   cases_agree : (inside : List HashId) (cs : List CasePart) (n : ℕ) (x : List (CaseHead × Tree) × ℕ) → r.cases go inside cs n ≡ Ok x → (arms_pass test (map arm_in cs) ≡ true) × (cases_in see (map arm_in cs) ≡ case_shapes (cases_of x.0))
   cases_agree inside [] n x e = (refl, ap (λ y. case_shapes (cases_of y.0)) (ok_is e))
@@ -130,9 +132,10 @@ module _ (pool : Texts) (go : Walk) (test : Test) (see : See) (h : (inside : Lis
       let d = bind_ok (each (r.case go inside) ms b.0.1) (λ ys. Ok (b.0.0 ∷ ys.0, ys.1)) x b.2 in
       let rest = cases_agree inside ms b.0.1 d.0 d.1 in
       let all : (b.0.0 ∷ d.0.0, d.0.1) ≡ x = ok_is d.2 in
-      let L : Cases = cases_in see (map arm_in ms) in
-      (and_from (test m.ty) (arms_pass test (map arm_in ms)) p.1 rest.0,
-       ap (λ s. one_case (arm_in m).0 s L) p.2 ∙ ap (λ y. one_case (case_shape y.0.0) (shape y.0.1) L) one ∙ ap (λ l. one_case (case_shape b.0.0.0) (shape b.0.0.1) l) rest.1 ∙ ap (λ y. case_shapes (cases_of y.0)) all)
+      let L : Cases = cases_in see (map arm_in ms) in (
+        and_from (test m.ty) (arms_pass test (map arm_in ms)) p.1 rest.0,
+        ap (λ s. one_case (arm_in m).0 s L) p.2 ∙ ap (λ y. one_case (case_shape y.0.0) (shape y.0.1) L) one ∙ ap (λ l. one_case (case_shape b.0.0.0) (shape b.0.0.1) l) rest.1 ∙ ap (λ y. case_shapes (cases_of y.0)) all,
+      )
 
   -- what a base gives
   abbrev Based : ℕ → Identifier → Standing → Type 0
@@ -203,9 +206,10 @@ module _ (pool : Texts) (go : Walk) (test : Test) (see : See) (h : (inside : Lis
       let d = part_agrees S.Disc inside disc_flags disc n b.0 b.1 in
       let a = bind_ok (r.cases go inside cs b.0.1) (λ all. Ok (tree.union (record { name = name; ext = ext_of flags; nested = bit flags 8; hashed_ids = bit flags 16; disc_key = bit disc_flags 32 }) b.0.0.1 (cases_of all.0), all.1)) y b.2 in
       let rest = cases_agree inside cs b.0.1 a.0 a.1 in
-      let is : (tree.union (record { name = name; ext = ext_of flags; nested = bit flags 8; hashed_ids = bit flags 16; disc_key = bit disc_flags 32 }) b.0.0.1 (cases_of a.0.0), a.0.1) ≡ y = ok_is a.2 in
-      (and_from (test disc) (arms_pass test (map arm_in cs)) d.1 rest.0,
-       ap (λ s. union (ext_of flags) (bit disc_flags 32) s (cases_in see (map arm_in cs))) d.2 ∙ ap (λ c. union (ext_of flags) (bit disc_flags 32) (shape b.0.0.1) c) rest.1 ∙ ap (λ z. shape z.0) is)
+      let is : (tree.union (record { name = name; ext = ext_of flags; nested = bit flags 8; hashed_ids = bit flags 16; disc_key = bit disc_flags 32 }) b.0.0.1 (cases_of a.0.0), a.0.1) ≡ y = ok_is a.2 in (
+        and_from (test disc) (arms_pass test (map arm_in cs)) d.1 rest.0,
+        ap (λ s. union (ext_of flags) (bit disc_flags 32) s (cases_in see (map arm_in cs))) d.2 ∙ ap (λ c. union (ext_of flags) (bit disc_flags 32) (shape b.0.0.1) c) rest.1 ∙ ap (λ z. shape z.0) is,
+      )
 
   node_agrees : (inside : List HashId) (t : Identifier) (n : ℕ) (y : Tree × ℕ) → node pool go inside t n ≡ Ok y → (level_test pool test t ≡ true) × (level pool see t ≡ shape y.0)
   node_agrees inside o.none n y e = absurd (not_ok e)
@@ -226,9 +230,10 @@ module _ (pool : Texts) (go : Walk) (test : Test) (see : See) (h : (inside : Lis
       let value = part_agrees S.Entry inside flags v n b.0 b.1 in
       let c = bind_ok (part go S.Key inside key_flags k b.0.1) (λ q. Ok (tree.map_of bound q.0.0 q.0.1 b.0.0.0 b.0.0.1, q.1)) y b.2 in
       let key = part_agrees S.Key inside key_flags k b.0.1 c.0 c.1 in
-      let is : (tree.map_of bound c.0.0.0 c.0.0.1 b.0.0.0 b.0.0.1, c.0.1) ≡ y = ok_is c.2 in
-      (and_from (test k) (test v) key.1 value.1,
-       ap (λ a. map_of bound a (see k) (try_of flags) (see v)) (sym key.0) ∙ ap (λ a. map_of bound c.0.0.0 (see k) a (see v)) (sym value.0) ∙ ap (λ a. map_of bound c.0.0.0 a b.0.0.0 (see v)) key.2 ∙ ap (λ a. map_of bound c.0.0.0 (shape c.0.0.1) b.0.0.0 a) value.2 ∙ ap (λ z. shape z.0) is)
+      let is : (tree.map_of bound c.0.0.0 c.0.0.1 b.0.0.0 b.0.0.1, c.0.1) ≡ y = ok_is c.2 in (
+        and_from (test k) (test v) key.1 value.1,
+        ap (λ a. map_of bound a (see k) (try_of flags) (see v)) (sym key.0) ∙ ap (λ a. map_of bound c.0.0.0 (see k) a (see v)) (sym value.0) ∙ ap (λ a. map_of bound c.0.0.0 a b.0.0.0 (see v)) key.2 ∙ ap (λ a. map_of bound c.0.0.0 (shape c.0.0.1) b.0.0.0 a) value.2 ∙ ap (λ z. shape z.0) is,
+      )
   node_agrees inside (o.hash id) n y e =
       let b = bind_ok (follow pool inside id) (λ x. of_object pool go (id ∷ inside) x n) y e in
       let there = follow_ok pool inside id b.0 b.1 in

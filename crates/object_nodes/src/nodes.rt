@@ -66,10 +66,7 @@ pub enum Node<'p> {
 }
 
 /// What the type behind the identifier's aliases is.
-pub fn node_of<'p>(
-    pool: &'p Pool,
-    ty: &'p TypeIdentifier,
-) -> Result<Node<'p>, OutOfMemory>
+pub fn node_of<'p>(pool: &'p Pool, ty: &'p TypeIdentifier) -> Result<Node<'p>, OutOfMemory>
     requires { IsTrue (is_seen pool.now (view.identifier ty.now)) }
     ensures shape { IfOk result (λ n. node_shape pool.now n ≡ shape_in pool.now (view.identifier ty.now)) }
     ensures seen { IfOk result (λ n. IsTrue (node_seen pool.now n)) }
@@ -280,10 +277,7 @@ pub fn members_of<'p>(
 }
 
 /// The cases of a union.
-pub fn cases_of<'p>(
-    alloc: Global,
-    cases: &'p [ObjectCase],
-) -> Result<Row<Arm<'p>>, OutOfMemory>
+pub fn cases_of<'p>(alloc: Global, cases: &'p [ObjectCase]) -> Result<Row<Arm<'p>>, OutOfMemory>
     ensures { IfOk result (λ row. map arm_view row ≡ map arm_in (map view.case cases.now)) }
 {
     let mut row = Row::new(alloc);

@@ -89,9 +89,7 @@ pub fn judge_pairs_under<L: Ledger>(
 {
     let lefts = Reach::gather(alloc, pool, id1)?;
     let rights = Reach::gather(alloc, pool, id2)?;
-    verdict_of(examined(
-        alloc, policy, rep, pool, &lefts, &rights, id1, id2, steps,
-    ))
+    verdict_of(examined(alloc, policy, rep, pool, &lefts, &rights, id1, id2, steps))
 }
 
 /// `judge_pairs_under` the standard policy.

@@ -110,8 +110,8 @@ module _ (lefts rights : List HashId) (q : Pair) where
 pub few : NotesAreFew
 few q r pool lefts rights es reader writer xs ys memo left right has_left has_right =
     let within : (p : Pair) → is_member same_pair (keys_of es) p ≡ true → is_member same_pair (all_pairs xs ys) p ≡ true = λ p m.
-      let of = noted_of lefts rights p es memo.reached m in
-      in_all p xs ys (of_among (λ id. IsReached pool reader id) p.left lefts left of.0 xs has_left) (of_among (λ id. IsReached pool writer id) p.right rights right of.1 ys has_right)
+    let of = noted_of lefts rights p es memo.reached m in
+    in_all p xs ys (of_among (λ id. IsReached pool reader id) p.left lefts left of.0 xs has_left) (of_among (λ id. IsReached pool writer id) p.right rights right of.1 ys has_right)
     in
     let few_keys = length-le_from_is_member pairs_lawful (keys_of es) (all_pairs xs ys) memo.apart within in
     subst (λ n. length es ≤ n) (length_pairs xs ys) (subst (λ n. n ≤ length (all_pairs xs ys)) (length-map es (λ (e : Entry). e.0)) few_keys)

@@ -55,7 +55,7 @@ module _ (q : Policy) (r : Rep) (pool : Texts) (lefts rights : List HashId) wher
   noted p state es new e apart of h is = record {
     so = subst (λ (l : List Entry). AllByRecursion (λ (x : Entry). EntryIsSo q r pool x.0 x.1) l) (sym e) (put (EntryIsSo q r pool) p state es h.so is);
     reached = subst (λ (l : List Entry). AllByRecursion (λ (x : Entry). IsOf lefts rights x.0) l) (sym e) (put (λ (y : Pair) (s : State). IsOf lefts rights y) p state es h.reached of);
-    apart = subst (λ (t : Pair → Pair → Bool). IsDistinct t (keys_of new)) pair_tests apart
+    apart = subst (λ (t : Pair → Pair → Bool). IsDistinct t (keys_of new)) pair_tests apart;
   }
 
   pub kept : (es new : List Entry) → new ≡ es → IsMemo q r pool lefts rights es → IsMemo q r pool lefts rights new
