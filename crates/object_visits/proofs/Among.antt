@@ -6,7 +6,7 @@ use Rattle.indexmap.specs.IndexSet.{insert_key}
 use Rattle.type_trees.specs.declared.types.HashId.{HashId}
 use Rattle.type_trees.specs.contracts.types.HashIdPartialEq.TheImpl as keys
 use Rattle.type_trees.specs.Ids.{same_id}
-use Rattle.type_object.proofs.SameIds.{same_id_tells, same_id_itself}
+use Rattle.type_trees.proofs.SameIds.{same_id_tells, same_id_itself}
 use Rattle.type_object.proofs.Noted.{note_is}
 use Rattle.type_object.specs.References.{is_among}
 

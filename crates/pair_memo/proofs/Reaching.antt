@@ -8,7 +8,7 @@ use Rattle.type_trees.specs.contracts.types.HashIdPartialEq.TheImpl as keys
 use Rattle.type_trees.specs.declared.types.HashId.{HashId}
 use Rattle.type_trees.specs.Ids.{same_id}
 use Rattle.object_formats.specs.Objects.{Object}
-use Rattle.type_object.proofs.SameIds.{same_is, same_id_itself}
+use Rattle.type_trees.proofs.SameIds.{same_is, same_id_itself}
 use Rattle.type_object.specs.Pools.{Texts, object_at}
 use Rattle.type_object.specs.References.{is_among, in_order, once, references, note, noted}
 use Rattle.object_walks.specs.Laws.{IsClosed, HasReached, IsReached}

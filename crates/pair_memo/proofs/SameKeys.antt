@@ -2,7 +2,7 @@
 use Rattle.std.proofs.Common.{◌≡◌, ℕ, ◌==◌, ◌&&◌, Bool, true, false, List, [], ◌∷◌, refl, sym, ap, ◌∙◌}
 use Rattle.std.proofs.lemmas.Bool.{and_parts, eqb-true}
 use Rattle.std.specs.Cmp.{IsEquivalence}
-use Rattle.type_object.proofs.SameIds.{same_is, same_id_itself}
+use Rattle.type_trees.proofs.SameIds.{same_is, same_id_itself}
 use Rattle.type_trees.specs.Ids.{same_id}
 use Rattle.type_trees.specs.declared.types.HashId.{HashId}
 use Rattle.pair_memo.specs.contracts.memo.PairPartialEq.TheImpl as pairs
