@@ -1,0 +1,148 @@
+ghost use Rattle.std.specs.Prelude.{◌≡◌, ◌≤◌, [], IfOk, length, map};
+ghost use Rattle.std.specs.Option.{option_map};
+ghost use Rattle.idl_types.specs.State as idl_types;
+ghost use Rattle.object_formats.specs.View as view;
+ghost use Rattle.type_object.specs.Pools.{added};
+ghost use Rattle.tool_output.specs.Runs.{Comes};
+ghost use Rattle.xt_io.specs.Bundles.{limit_of};
+ghost use Rattle.tool_front.specs.Reading.{AreWithin};
+ghost use Rattle.tool_types.specs.Types as spec;
+ghost use Rattle.tool_types.specs.Declaring.{AllGood, AreGood, IsGood, declared_view, Leaves, Joins};
+
+use crate::refusals::{refuse_idl, refuse_pool};
+use idl_parsed::parsed_is_printable;
+use object_formats::TypeObject;
+use parsed_objects::parsed_has_objects;
+use std::alloc::Global;
+use tool_output::{Halt, Stop};
+use type_object::Pool;
+use type_resolve::objects_of;
+use type_trees::{HashId, Named};
+use xt_idl::parse;
+use xt_io::{Item, Kind};
+use xt_lists::{OutOfMemory, Row, Text};
+
+/// What a record of a front declares: the types of a text, or an object's identifier and its type's name.
+#[derive(Debug, Drop)]
+pub enum Declared {
+    Types(Row<Named>),
+    Object { id: HashId, name: Option<Text> },
+}
+
+// Adds the objects of types, one type after another.
+fn with_objects(alloc: Global, number: u32, types: &[Named], pool: &mut Pool) -> Result<(), Stop>
+    requires { AreGood types.now }
+    ensures { Joins (spec.with_objects number pool.old (idl_types.declared types.now)) result pool.new }
+{
+    for named in types {
+        match objects_of(alloc, named, pool) {
+            Ok(_) => {}
+            Err(fault) => return Err(refuse_pool(alloc, number, fault)),
+        }
+    }
+    Ok(())
+}
+
+fn declare_text(alloc: Global, number: u32, text: &[u8], pool: &mut Pool) -> Result<Declared, Stop>
+    requires { length text.now ≤ 1048576 }
+    ensures good { IfOk result IsGood }
+    ensures declared { Leaves (spec.declared_as Kind.Idl number pool.old text.now) declared_view result pool.new }
+{
+    parsed_has_objects();
+    parsed_is_printable();
+    let types = match parse(alloc, text) {
+        Ok(types) => types,
+        Err(fault) => return Err(refuse_idl(alloc, number, fault)),
+    };
+    match with_objects(alloc, number, types.as_slice(), pool) {
+        Ok(()) => Ok(Declared::Types(types)),
+        Err(stop) => Err(stop),
+    }
+}
+
+fn copy_name(alloc: Global, name: &Option<Text>) -> Result<Option<Text>, OutOfMemory>
+    ensures { IfOk result (λ copy. copy ≡ name.now) }
+{
+    match name {
+        Some(text) => Ok(Some(Text::from_octets(alloc, text.octets())?)),
+        None => Ok(None),
+    }
+}
+
+fn name_of(object: &TypeObject) -> &Option<Text>
+    ensures { result.now ≡ spec.name_of (view.object object.now) }
+{
+    match object {
+        TypeObject::Alias { name, .. }
+        | TypeObject::Enum { name, .. }
+        | TypeObject::Mask { name, .. }
+        | TypeObject::Struct { name, .. }
+        | TypeObject::Union { name, .. } => name,
+    }
+}
+
+fn name_in(alloc: Global, object: Option<&TypeObject>) -> Result<Option<Text>, OutOfMemory>
+    ensures { IfOk result (λ name. spec.name_in (option_map (λ o. view.object o.now) object.entry) ≡ name) }
+{
+    match object {
+        Some(object) => copy_name(alloc, name_of(object)),
+        None => Ok(None),
+    }
+}
+
+fn declare_object(
+    alloc: Global,
+    number: u32,
+    octets: &[u8],
+    pool: &mut Pool,
+) -> Result<Declared, Stop>
+    ensures good { IfOk result IsGood }
+    ensures declared { Leaves (spec.object_added number (added pool.old octets.now)) declared_view result pool.new }
+{
+    let id = match pool.add(octets) {
+        Ok(id) => id,
+        Err(fault) => return Err(refuse_pool(alloc, number, fault)),
+    };
+    match name_in(alloc, pool.get(&id)) {
+        Ok(name) => Ok(Declared::Object { id, name }),
+        Err(_) => Err(Stop::Halted(Halt::OutOfMemory)),
+    }
+}
+
+fn declare_record(
+    alloc: Global,
+    number: u32,
+    item: &Item,
+    pool: &mut Pool,
+) -> Result<Declared, Stop>
+    requires { length item.now.payload ≤ limit_of item.now.kind }
+    ensures good { IfOk result IsGood }
+    ensures declared { Leaves (spec.declared_by number pool.old item.now) declared_view result pool.new }
+{
+    match item.kind {
+        Kind::Idl => declare_text(alloc, number, item.payload.octets(), pool),
+        Kind::Object | Kind::Sample | Kind::Json | Kind::Note => {
+            declare_object(alloc, number, item.payload.octets(), pool)
+        }
+    }
+}
+
+/// The types of the records of a front, in order, and the pool of their objects.
+pub fn declare(alloc: Global, items: &[Item]) -> Result<(Row<Declared>, Pool), Stop>
+    requires few { length items.now ≤ 1048576 }
+    requires within { AreWithin items.now }
+    ensures good { IfOk result (λ d. AllGood d.0) }
+    ensures declared { Comes (spec.declare 0 [] items.now) (λ d. (map declared_view d.0, d.1)) result }
+{
+    let mut records = Row::new(alloc);
+    let mut pool = Pool::new(alloc);
+    let mut number: u32 = 0;
+    for item in items {
+        match declare_record(alloc, number, item, &mut pool) {
+            Ok(declared) => records.push(declared)?,
+            Err(stop) => return Err(stop),
+        }
+        number += 1;
+    }
+    Ok((records, pool))
+}

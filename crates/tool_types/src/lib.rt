@@ -1,0 +1,8 @@
+//! The types that a front declares, and the pool of their objects.
+#![tactic(auto)]
+
+mod declaring;
+mod refusals;
+
+pub use declaring::{Declared, declare};
+pub use refusals::refuse_types;
