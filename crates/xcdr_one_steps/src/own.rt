@@ -1,0 +1,70 @@
+// The headers of optional members (DDS-XTypes 1.3, 7.4.1).
+ghost use Rattle.std.specs.Prelude.{◌≡◌, ◌≤◌, IfOk};
+ghost use Rattle.xcdr_model.specs.Xcdr1Reading as spec;
+ghost use Rattle.wire_cursor.specs.Standing.{room};
+ghost use Rattle.wire_cursor.specs.Decoding.{Decodes};
+ghost use Rattle.wire_cursor.specs.declared.faults.DecodeFault.TheVariants.{Malformed};
+ghost use Rattle.xcdr_one_steps.specs.Marks.{mark_view, marked_view};
+ghost use Rattle.xcdr_one_steps.specs.Own.{named, own_checked, own_length};
+
+use crate::marks::{Mark, Marked, read_mark};
+use wire_cursor::{Cursor, DecodeFault};
+use xcdr_model::Why;
+
+const LIST_END: u32 = 0x3F02;
+
+const IGNORED: u32 = 0x3F03;
+
+// Whether the header is that of the member with this id: the list's end and an ignored parameter never are.
+fn is_named(mark: Mark, id: u32) -> bool
+    ensures { result ≡ named (mark_view mark) id }
+{
+    let reserved = !mark.extended && (mark.id == LIST_END || mark.id == IGNORED);
+    mark.id == id && !reserved
+}
+
+// Whether no member has the header's id.
+fn is_no_id(mark: Mark) -> bool
+    ensures { result ≡ spec.is_no_id (mark_view mark) }
+{
+    if mark.extended {
+        mark.id == 0x0FFF_FFFF
+    } else {
+        mark.id > 0x3F00
+    }
+}
+
+fn malformed(at: u64, why: Why) -> Result<u64, DecodeFault>
+    ensures { result ≡ Err (Malformed at why) }
+{
+    Err(DecodeFault::Malformed { at, why })
+}
+
+// The length of this header's content, which has that many octets of the region.
+fn checked_own<C: Cursor>(cursor: &C, header: Marked, id: u32) -> Result<u64, DecodeFault>
+    requires { (C.state cursor.now).origin ≤ header.at }
+    ensures room { IfOk result (λ n. n ≤ room (C.state cursor.now)) }
+    ensures value { Decodes (λ n. n) (own_checked id (marked_view (C.state cursor.now) header)) (C.state cursor.now) (C.state cursor.now) result }
+{
+    if !is_named(header.mark, id) {
+        return malformed(header.at, Why::Parameter);
+    }
+    if is_no_id(header.mark) {
+        return malformed(header.at, Why::MemberId);
+    }
+    if cursor.region_end() - cursor.place() < header.mark.length {
+        return malformed(header.at, Why::MemberSize);
+    }
+    Ok(header.mark.length)
+}
+
+/// Reads the header of the optional member with this id, and tells how many octets its content has: 0 where the member is absent. A fault is
+/// at the header's first octet: Parameter where it is another's, MemberId where no member has the id, MemberSize where the content passes the
+/// region.
+pub fn read_own<C: Cursor>(cursor: &mut C, id: u32) -> Result<u64, DecodeFault>
+    ensures room { IfOk result (λ n. n ≤ room (C.state cursor.new)) }
+    ensures value { Decodes (λ n. n) (own_length id) (C.state cursor.old) (C.state cursor.new) result }
+{
+    let header = read_mark(cursor)?;
+    checked_own(cursor, header, id)
+}
