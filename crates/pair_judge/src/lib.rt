@@ -8,6 +8,7 @@ mod judge;
 mod key_fit;
 mod known;
 mod pairs;
+mod parts;
 mod question;
 mod stops;
 #[cfg(test)]
