@@ -1,3 +1,5 @@
+ghost use Rattle.std.specs.Prelude.{◌≡◌, ◌<◌};
+
 use crate::{Rule, Steps, Verdict, judge_pairs};
 use object_formats::{ObjectMember, TypeIdentifier, TypeObject};
 use object_walks::resolve;
@@ -105,8 +107,7 @@ fn verdict(
     id1: &HashId,
     id2: &HashId,
 ) -> Result<Verdict, Fail> {
-    let mut steps = Steps::<Brand>::new(Blank::new(1));
-    counted(alloc, rep, pool, id1, id2, &mut steps)
+    counted::<Brand>(alloc, rep, pool, id1, id2, Blank::new(1))
 }
 
 fn counted<L: Ledger>(
@@ -115,11 +116,16 @@ fn counted<L: Ledger>(
     pool: &Pool,
     id1: &HashId,
     id2: &HashId,
-    steps: &mut Steps<L>,
-) -> Result<Verdict, Fail> {
+    blank: Blank,
+) -> Result<Verdict, Fail>
+    requires name { blank.name ≡ L.name }
+    requires parts { blank.parts ≡ L.parts }
+    requires some { 0 < L.parts }
+{
     let _reader = resolve(alloc, pool, id1)?;
     let _writer = resolve(alloc, pool, id2)?;
-    Ok(judge_pairs(alloc, rep, pool, id1, id2, steps)?)
+    let mut steps = Steps::<L>::new(blank);
+    Ok(judge_pairs(alloc, rep, pool, id1, id2, &mut steps)?)
 }
 
 fn is_yes(verdict: &Verdict) -> bool {
