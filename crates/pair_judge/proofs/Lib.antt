@@ -1,0 +1,6 @@
+pub mod Ends
+pub mod Same
+pub mod Fitting
+pub mod Paired
+pub mod Few
+pub mod Verdicts
