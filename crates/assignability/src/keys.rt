@@ -1,7 +1,7 @@
-ghost use Rattle.std.specs.Prelude.{◌≡◌, ◌||◌, ◌&&◌, not};
+ghost use Rattle.std.specs.Prelude.{◌≡◌, ◌&&◌};
+ghost use Rattle.assignability.specs.Views.{counted_fits};
 ghost use Rattle.xcdr_model.specs.Keys as spec;
 ghost use Rattle.xt_shapes.specs.Keyable as keyable;
-ghost use Rattle.xt_shapes.specs.NodeRules as rules;
 ghost use Rattle.xt_shapes.specs.Lists.{is_some_and};
 ghost use Rattle.type_trees.specs.Bridge.{type_shape, members_shape, member_head};
 ghost use Rattle.xt_shapes.specs.Select.{shape_at};
@@ -32,7 +32,7 @@ pub(crate) fn has_key_fit(member: &Member, others: &[Member]) -> bool
 
 #[cycle(key_fit)]
 fn counted_fits(keyed: bool, member: &Member, others: &[Member]) -> bool
-    ensures { result ≡ (not (keyable.counted keyed (member_head member.now)) || ((not (spec.is_structure (type_shape member.now.ty)) || rules.is_discard member.now.tc) && is_some_and (shape_at (members_shape others.now) member.now.id) (λ u. spec.key_fit (type_shape member.now.ty) u))) }
+    ensures { result ≡ counted_fits keyed (member_head member.now) (type_shape member.now.ty) (members_shape others.now) }
 {
     if !(member.key || !keyed) {
         return true;

@@ -1,7 +1,7 @@
-ghost use Rattle.std.specs.Prelude.{◌≡◌, map, length};
+ghost use Rattle.std.specs.Prelude.{◌≡◌};
 ghost use Rattle.idl_input.specs.Words as spec;
 
-use idl_tokens::same;
+use idl_tokens::beside;
 use xt_shapes::Prim;
 
 /// A keyword. `Outside` is one that isn't in the profile.
@@ -133,22 +133,10 @@ pub const KEYWORDS: [(&'static [u8], Keyword); 38] = [
     (b"any", Keyword::Outside),
 ];
 
-fn lookup(mut table: &[(&[u8], Keyword)], word: &[u8]) -> Option<Keyword>
-    ensures { result ≡ spec.lookup (map (λ k. (k.0.now, k.1)) table.entry.now) word.now }
-{
-    while let [entry, rest @ ..] = table {
-        if same(entry.0, word) {
-            return Some(entry.1);
-        }
-        table = rest;
-    }
-    None
-}
-
 /// The keyword that a word is.
 #[tactic(auto, unfolding(crate::specs::Words::keyword))]
 pub fn keyword_of(word: &[u8]) -> Option<Keyword>
     ensures { result ≡ spec.keyword word.now }
 {
-    lookup(&KEYWORDS, word)
+    beside(&KEYWORDS, word)
 }

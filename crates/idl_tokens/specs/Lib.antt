@@ -1,4 +1,5 @@
 pub mod Classes
 pub mod Numerals
+pub mod Tables
 pub mod Tokens
 pub mod Worked

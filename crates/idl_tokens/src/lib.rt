@@ -4,7 +4,9 @@
 
 mod classes;
 mod numerals;
+mod tables;
 mod tokens;
 
 pub use numerals::{is_negative, magnitude, signed_32, unsigned_in};
+pub use tables::beside;
 pub use tokens::{Token, TokenKind, is_seen, same, skip};

@@ -15,5 +15,5 @@ pub use keys::keyable;
 pub use kinds::{is_discriminator, is_map_key};
 pub use nodes::failing_rule;
 pub use numbers::{has_literal, is_of_prim};
-pub use octets::{name_fits, scope_fits};
+pub use octets::{is_scoped, name_fits, scope_fits};
 pub use weights::is_light;

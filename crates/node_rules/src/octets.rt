@@ -49,7 +49,7 @@ enum Place {
 }
 
 /// Whether the octets are identifiers joined by `::`.
-fn is_scoped(octets: &[u8]) -> bool
+pub fn is_scoped(octets: &[u8]) -> bool
     ensures { result ≡ spec.is_scoped octets.now }
 {
     let mut place = Place::Start;

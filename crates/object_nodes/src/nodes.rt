@@ -4,10 +4,11 @@ ghost use Rattle.object_formats.specs.Objects.{hash};
 ghost use Rattle.object_nodes.specs.Seen.{shape_in, is_seen, inherited, base_parts, all_parts, object_shape, object_test, arm_in, part_in};
 ghost use Rattle.object_nodes.specs.Views.{node_shape, node_seen, part_view, arm_view};
 
-use crate::parts::{Arm, Part, arm_of, ext_of, has_flag, in_octet, part_of, try_of};
+use crate::parts::{Arm, Part, arm_of, part_of};
 use object_formats::{
     ObjectCase, ObjectFlag, ObjectLiteral, ObjectMember, TypeIdentifier, TypeObject,
 };
+use object_walks::{ext_of, has_flag, in_octet, try_of};
 use std::alloc::Global;
 use type_object::Pool;
 use type_trees::HashId;

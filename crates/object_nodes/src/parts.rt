@@ -1,12 +1,12 @@
-ghost use Rattle.std.specs.Prelude.{◌≡◌, ◌<◌};
+ghost use Rattle.std.specs.Prelude.{◌≡◌};
 ghost use Rattle.object_formats.specs.View as view;
-ghost use Rattle.object_walks.specs.Resolving as spec;
 ghost use Rattle.object_nodes.specs.Seen.{part_in, arm_in};
 ghost use Rattle.object_nodes.specs.Views.{part_view, arm_view};
 
 use object_formats::{ObjectCase, ObjectMember, TypeIdentifier};
+use object_walks::{has_flag, try_of};
 use type_trees::name_number;
-use xt_shapes::{Ext, Try};
+use xt_shapes::Try;
 
 /// A member of a structure, with its name hashed and the identifier of its type.
 #[derive(Clone, Copy)]
@@ -29,43 +29,6 @@ pub struct Arm<'p> {
     pub labels: &'p [i32],
     pub is_default: bool,
     pub ty: &'p TypeIdentifier,
-}
-
-/// Whether a flag is set; it is a power of two.
-pub(crate) fn has_flag(flags: u16, flag: u16) -> bool
-    requires { 0 < flag }
-    ensures { result ≡ spec.bit flags flag }
-{
-    (flags / flag) % 2 == 1
-}
-
-/// What becomes of a value that can't be constructed, from the lowest two flags.
-pub(crate) fn try_of(flags: u16) -> Try
-    ensures { result ≡ spec.try_of flags }
-{
-    match flags % 4 {
-        1 => Try::Discard,
-        2 => Try::UseDefault,
-        _ => Try::Trim,
-    }
-}
-
-/// The extensibility, from the lowest three flags.
-pub(crate) fn ext_of(flags: u16) -> Ext
-    ensures { result ≡ spec.ext_of flags }
-{
-    match flags % 8 {
-        1 => Ext::Final,
-        2 => Ext::Appendable,
-        _ => Ext::Mutable,
-    }
-}
-
-/// A number of bits or a position, in one octet.
-pub(crate) fn in_octet(number: u16) -> u8
-    ensures { result ≡ spec.in_octet number }
-{
-    if number < 255 { number as u8 } else { 255 }
 }
 
 pub(crate) fn part_of<'p>(member: &'p ObjectMember) -> Part<'p>

@@ -10,7 +10,7 @@ use xt_lists::{OutOfMemory, Row};
 use xt_shapes::{Ext, Try};
 
 /// Whether a flag is set; it is a power of two.
-pub(crate) fn has_flag(flags: u16, flag: u16) -> bool
+pub fn has_flag(flags: u16, flag: u16) -> bool
     requires { 0 < flag }
     ensures { result ≡ spec.bit flags flag }
 {
@@ -18,7 +18,7 @@ pub(crate) fn has_flag(flags: u16, flag: u16) -> bool
 }
 
 /// What becomes of a value that can't be constructed, from the lowest two flags.
-pub(crate) fn try_of(flags: u16) -> Try
+pub fn try_of(flags: u16) -> Try
     ensures { result ≡ spec.try_of flags }
 {
     match flags % 4 {
@@ -29,7 +29,7 @@ pub(crate) fn try_of(flags: u16) -> Try
 }
 
 /// The extensibility, from the lowest three flags.
-pub(crate) fn ext_of(flags: u16) -> Ext
+pub fn ext_of(flags: u16) -> Ext
     ensures { result ≡ spec.ext_of flags }
 {
     match flags % 8 {
@@ -47,7 +47,7 @@ pub(crate) fn has_ext(flags: u16, ext: Ext) -> bool
 }
 
 /// A number of bits or a position, in one octet.
-pub(crate) fn in_octet(number: u16) -> u8
+pub fn in_octet(number: u16) -> u8
     ensures { result ≡ spec.in_octet number }
 {
     if number < 255 { number as u8 } else { 255 }

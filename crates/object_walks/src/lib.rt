@@ -14,4 +14,5 @@ mod tests;
 mod walk;
 
 pub use laws::{parts_are_walked, resolved_is_walked, tree_is_one};
+pub use leaves::{ext_of, has_flag, in_octet, try_of};
 pub use resolving::{ResolveFault, resolve};

@@ -107,16 +107,18 @@ abbrev pub Refuses : Refusal → Stop → Type 0
 Refuses said (stops.Refused r) = refusal r ≡ said
 Refuses said (stops.Halted halt) = halt ≡ halts.OutOfMemory
 
--- What a call that writes nothing answers: what the definition gives, or its refusal, or a halt.
+-- What a call that reads and writes nothing answers: what the definition gives, or its refusal, or want of memory.
 abbrev pub Comes : {A X : Type 0} → Result A Refusal → (X → A) → Result X Stop → Type 0
 Comes said view (Ok x) = said ≡ Ok (view x)
 Comes said view (Err (stops.Refused r)) = said ≡ Err (refusal r)
-Comes said view (Err (stops.Halted halt)) = Unit {0}
+Comes said view (Err (stops.Halted halt)) = halt ≡ halts.OutOfMemory
 
--- the same where the source's octets tell it
+-- What a call that reads answers, where the source's octets tell it: what the definition gives, or its refusal, or a halt.
 abbrev pub ComesTold : {A X : Type 0} → Option (Result A Refusal) → (X → A) → Result X Stop → Type 0
 ComesTold None view result = Unit {0}
-ComesTold (Some said) view result = Comes said view result
+ComesTold (Some said) view (Ok x) = said ≡ Ok (view x)
+ComesTold (Some said) view (Err (stops.Refused r)) = said ≡ Err (refusal r)
+ComesTold (Some said) view (Err (stops.Halted halt)) = Unit {0}
 
 -- ---- the next record of a body
 
@@ -198,3 +200,9 @@ pub record StopsReading {T : Type 0} (source_before source_now : ℕ) (result : 
   pub source_later : source_before ≤ source_now
   pub read : IsErrOf result (stops.Halted halts.ReadFault) → Rose source_before source_now
   pub no_write : IsErrOf result (stops.Halted halts.WriteFault) → ⊥
+
+-- a call that writes and reads nothing
+pub record StopsWriting {T : Type 0} (sink_before sink_now : ℕ) (result : Result T Stop) : Type 0 where
+  pub later : sink_before ≤ sink_now
+  pub no_read : IsErrOf result (stops.Halted halts.ReadFault) → ⊥
+  pub write : IsErrOf result (stops.Halted halts.WriteFault) → Rose sink_before sink_now

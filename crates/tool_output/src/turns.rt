@@ -83,8 +83,9 @@ fn is_note(kind: Kind) -> bool
     }
 }
 
-// Passes over a Note. Another record has no place.
-fn pass_other<S: Source>(
+/// Passes over the record whose head the reader just gave: a Note is read whole and left, and another record has no place, which is
+/// refused once it was read whole. It gives the reader back.
+pub fn pass_other<S: Source>(
     alloc: Global,
     head: Head,
     reader: BundleReader<S>,

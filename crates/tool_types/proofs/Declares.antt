@@ -46,10 +46,10 @@ types_stop k pool new t ts why e = ap (λ r. spec.with_all k r >>= λ more. spec
 
 refused_by : (said : Result Texts Refusal) (why : Refusal) (stop : Stop) (now : Texts) → said ≡ Err why → Refuses why stop → Joins said (Err stop) now
 refused_by said why (stops.Refused r) now e p = e ∙ ap (λ (x : Refusal). Err x) (sym p)
-refused_by said why (stops.Halted halt) now e p = tt
+refused_by said why (stops.Halted halt) now e p = p
 
 halted_by : (said : Result Texts Refusal) (stop : Stop) (now : Texts) → stop ≡ stops.Halted halts.OutOfMemory → Joins said (Err stop) now
-halted_by said stop now e = rw e tt
+halted_by said stop now e = rw e refl
 
 -- a type whose objects were refused
 pub types_refused : (k : ℕ) (pool new : Texts) (t : Named) (ts : List Named) (fault : PoolFault) (stop : Stop) → Halts fault pool (texts (tree t.ty)) new → IsRefusal k fault stop → Joins (spec.with_objects k pool (declared (t ∷ ts))) (Err stop) new
@@ -89,11 +89,11 @@ idl_stops k (idl_fault.Invalid at fault) text stop p is none = said_stops _ text
 
 said_by : (k : ℕ) (pool now : Texts) (fault : IdlFault) (stop : Stop) (r : Result Declared IdlFault) → r ≡ Err fault → Refuses (spec.types_refusal (idl_fault_text k fault)) stop → Leaves (spec.text_parsed k pool r) declared_view (Err stop) now
 said_by k pool now fault (stops.Refused q) r e p = ap (λ (x : Result Declared IdlFault). spec.text_parsed k pool x) e ∙ ap (λ (x : Refusal). Err x) (sym p)
-said_by k pool now fault (stops.Halted halt) r e p = tt
+said_by k pool now fault (stops.Halted halt) r e p = p
 
 -- a text that is faulty
 pub text_refused : (k : ℕ) (pool now : Texts) (fault : IdlFault) (stop : Stop) (r : Result Declared IdlFault) → (fault ≢ idl_fault.OutOfMemory → r ≡ Err fault) → IdlStops k fault stop → Leaves (spec.text_parsed k pool r) declared_view (Err stop) now
-text_refused k pool now idl_fault.OutOfMemory stop r e p = rw p tt
+text_refused k pool now idl_fault.OutOfMemory stop r e p = rw p refl
 text_refused k pool now (idl_fault.Syntax at) stop r e p = said_by k pool now _ stop r (e (λ same. cc)) p
 text_refused k pool now (idl_fault.Unknown at) stop r e p = said_by k pool now _ stop r (e (λ same. cc)) p
 text_refused k pool now (idl_fault.Twice at) stop r e p = said_by k pool now _ stop r (e (λ same. cc)) p
@@ -137,7 +137,7 @@ record_stops k pool item items ds why e = ap (λ (r : spec.Stood). after_declare
 pub record_refused : {X : Type 0} (k : ℕ) (pool now : Texts) (item : Item) (items : List Item) (ds : List spec.Declared) (stop : Stop) (all : Result (List spec.Declared × Texts) Refusal) (view : X → List spec.Declared × Texts) → all ≡ after_declared ds (spec.declare k pool (item ∷ items)) → Leaves (spec.declared_by k pool item) declared_view (Err stop) now
     → Comes all view (Err stop)
 record_refused k pool now item items ds (stops.Refused r) all view e p = e ∙ record_stops k pool item items ds (refusal r) p
-record_refused k pool now item items ds (stops.Halted halt) all view e p = tt
+record_refused k pool now item items ds (stops.Halted halt) all view e p = p
 
 -- all of them
 pub records_end : (k : ℕ) (pool : Texts) (records : List Record) → after_declared (map declared_view records) (spec.declare k pool []) ≡ Ok (map declared_view records, pool)

@@ -43,7 +43,7 @@ AllGood (d ∷ ds) = IsGood d × AllGood ds
 abbrev pub Leaves : {A X : Type 0} → Result (A × Texts) Refusal → (X → A) → Result X Stop → Texts → Type 0
 Leaves said view (Ok x) pool = said ≡ Ok (view x, pool)
 Leaves said view (Err (stops.Refused r)) pool = said ≡ Err (refusal r)
-Leaves said view (Err (stops.Halted halt)) pool = Unit {0}
+Leaves said view (Err (stops.Halted halt)) pool = halt ≡ halts.OutOfMemory
 
 -- the refusal with this text, unless memory was wanting for it
 abbrev pub RefusesTypes : {E : Type 0} → Result (List ℕ) E → Stop → Type 0
@@ -63,7 +63,7 @@ IsRefusal k F.OutOfMemory stop = stop ≡ stops.Halted halts.OutOfMemory
 abbrev pub Joins : Result Texts Refusal → Result (Unit {0}) Stop → Texts → Type 0
 Joins said (Ok u) pool = said ≡ Ok pool
 Joins said (Err (stops.Refused r)) pool = said ≡ Err (refusal r)
-Joins said (Err (stops.Halted halt)) pool = Unit {0}
+Joins said (Err (stops.Halted halt)) pool = halt ≡ halts.OutOfMemory
 
 -- what the fault of a text of record k says
 abbrev pub IdlStops : ℕ → IdlFault → Stop → Type 0

@@ -1,3 +1,2 @@
-mod Scopes
 pub mod Valued
 pub mod Settled

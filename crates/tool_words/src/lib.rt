@@ -2,7 +2,6 @@
 #![tactic(auto)]
 
 mod commands;
-mod names;
 mod numbers;
 mod policies;
 mod references;

@@ -4,8 +4,8 @@ ghost use Rattle.type_trees.specs.Ids.{id_of_digits};
 ghost use Rattle.tool_words.specs.Words as spec;
 ghost use Rattle.tool_words.specs.View.{form_view, reference_view};
 
-use crate::names::is_scoped;
 use crate::numbers::number_below;
+use node_rules::is_scoped;
 use type_trees::HashId;
 
 /// How a word names a type.

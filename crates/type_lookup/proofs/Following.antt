@@ -108,7 +108,7 @@ front_is g h (Some all) (Some rest) (Ok None) p =
     let same : all ≡ [] = some-same all (p.0 ++ rest) p.1.1 ∙ ap (λ o. o ++ rest) p.2.0 ∙ none in
     (ap front same, ap (λ (r : List ℕ). Some r) none)
 front_is g h (Some all) None (Ok (Some message)) p = absurd (no-untold all p.0 p.1.1)
-front_is g h (Some all) (Some rest) (Ok (Some message)) p = whole-front p.0 all rest (framed message []) p.1.1 p.2 tt
+front_is g h (Some all) (Some rest) (Ok (Some message)) p = whole-front p.0 all rest (framed message []) p.1.1 p.2.0 tt
 front_is g h (Some all) None (Err LinkFault) p = tt
 front_is g h (Some all) (Some rest) (Err LinkFault) p = tt
 front_is g h (Some all) None (Err OutOfMemory) p = tt

@@ -1,8 +1,8 @@
 -- From the octets that were read to the frame at their front.
-use Rattle.std.proofs.Common.{◌≡◌, ◌≢◌, ℕ, ◌≤◌, ◌<◌, List, [], ◌∷◌, ◌++◌, sym, ap, ◌∙◌, length, take, drop, append-nil, length-append, arith, Option, Err}
+use Rattle.std.proofs.Common.{◌≡◌, ◌≢◌, ap₂, ℕ, ◌≤◌, ◌<◌, List, [], ◌∷◌, ◌++◌, sym, ap, ◌∙◌, length, take, drop, append-nil, length-append, arith, Option, Err}
 use Rattle.std.proofs.lemmas.List.{take_at, drop_at}
 use Rattle.std.proofs.lemmas.Grind.{common_steps}
-use Rattle.std.specs.Int.{w32, from_be_bytes}
+use Rattle.std.specs.Int.{w32, from_be_bytes, to_be_bytes}
 use Rattle.type_lookup.specs.declared.faults.FrameFault.{FrameFault}
 use Rattle.type_lookup.specs.declared.faults.FrameFault.TheVariants.{LinkFault, Truncated, TooLong, BadMessage, OutOfMemory}
 use Rattle.lookup_messages.specs.Fields.{payload}
@@ -58,6 +58,10 @@ pub front-filled : (head tail : List ℕ) (n : ℕ) → length head ≡ 4 → n 
 front-filled head tail n four e some le full =
     front-head head tail four ∙ ap (λ k. sized k tail) (sym e) ∙ sized-filled n tail some le full
     ∙ ap (λ t. filled n (payload t) (drop n tail)) (take-whole n tail full) ∙ ap (filled n (payload tail)) (drop-whole n tail full)
+
+-- what was read as a message is its frame
+pub frame_spelling : (head text payload : List ℕ) (n : ℕ) → to_be_bytes w32 n ≡ head → length text ≡ n → text ≡ payload → head ++ text ≡ to_be_bytes w32 (length payload) ++ payload
+frame_spelling head text payload n number full same = ap₂ (λ (l r : List ℕ). l ++ r) (sym number ∙ ap (to_be_bytes w32) (sym full ∙ ap length same)) same
 
 -- after a fault of the link or of the memory nothing is said of what was read
 pub outside-answers : (octets : List ℕ) (left : Option (List ℕ)) (fault : FrameFault) → IsOutside fault → Answers octets left (Err fault)

@@ -6,6 +6,7 @@ use Rattle.lookup_messages.specs.declared.messages.Message.{Message}
 use Rattle.type_lookup.specs.declared.faults.FrameFault.{FrameFault}
 use Rattle.type_lookup.specs.declared.faults.FrameFault.TheVariants.{LinkFault, Truncated, TooLong, BadMessage, OutOfMemory}
 use Rattle.lookup_messages.specs.Fields.{Field, got, bad, payload}
+use Rattle.lookup_messages.specs.Spelling.{frame_of}
 
 -- What stands at the front of the octets: nothing, a frame with the octets behind it, or what is no frame.
 pub data Front : Type 0 where
@@ -55,7 +56,7 @@ Took got_before got_now left_before left_now octets = (got_now ≡ append_known 
 -- What reading a frame answers where these octets were read and those are left.
 abbrev pub Answers : List ℕ → Option (List ℕ) → Result (Option Message) FrameFault → Type 0
 Answers octets left (Ok None) = (octets ≡ []) × IsAtEnd left
-Answers octets left (Ok (Some message)) = front octets ≡ framed message []
+Answers octets left (Ok (Some message)) = (front octets ≡ framed message []) × (octets ≡ frame_of message)
 Answers octets left (Err LinkFault) = Unit {0}
 Answers octets left (Err Truncated) = (front octets ≡ broken Truncated) × IsAtEnd left
 Answers octets left (Err (TooLong n)) = front octets ≡ broken (TooLong n)

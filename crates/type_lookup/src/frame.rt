@@ -37,10 +37,11 @@ pub fn read_frame<L: Link>(alloc: Global, link: &mut L) -> Result<Option<Message
     take_frame(alloc, link)
 }
 
-fn length_of(size: [u8; 4]) -> u32
-    ensures { result ≡ from_be_bytes w32 size }
+fn length_of(size: &[u8; 4]) -> u32
+    ensures number { result ≡ from_be_bytes w32 size.now }
+    ensures size { to_be_bytes w32 result ≡ size.now }
 {
-    BigEndian::read_u32(&size)
+    BigEndian::read_u32(size)
 }
 
 fn size_of(length: u32) -> [u8; 4]
@@ -67,7 +68,7 @@ fn take_frame<L: Link>(alloc: Global, link: &mut L) -> Result<Option<Message>, F
     if count < 4 {
         return Err(FrameFault::Truncated);
     }
-    let length = length_of(size);
+    let length = length_of(&size);
     if length == 0 {
         return Err(FrameFault::BadMessage { at: 0 });
     }

@@ -1,21 +1,17 @@
 -- The annotations that are known, and what each means without a parameter (DDS-XTypes 1.3, 7.3.1.2).
 use Rattle.std.specs.Prelude.{Bool, true, false, if◌then◌else◌, List, [], ◌∷◌, map, Option, Some, None}
-use Rattle.std.specs.Str.{bytes_eq}
 use Rattle.xt_shapes.specs.declared.leaves.Ext.{Ext}
 use Rattle.xt_shapes.specs.declared.leaves.Try.{Try}
 use Rattle.idl_tokens.specs.Classes.{Text}
+use Rattle.idl_tokens.specs.Tables.{beside}
 use Rattle.xt_annotations.specs.declared.annotations.Annotation.{Annotation}
 use Rattle.xt_annotations.specs.declared.annotations.ParameterKind.{ParameterKind}
 use Rattle.xt_annotations.specs.declared.annotations.TheConstants.{ANNOTATIONS}
 use Rattle.xt_annotations.specs.declared.notes.Note.{Note}
 use Rattle.xt_annotations.specs.declared.notes.Note.TheVariants as note
 
-abbrev pub lookup : List (Text × Annotation) → Text → Option Annotation
-lookup [] word = None
-lookup (k ∷ ks) word = if bytes_eq k.0 word then Some k.1 else lookup ks word
-
 unfoldable pub annotation : Text → Option Annotation
-annotation = lookup (map (λ k. (k.0.now, k.1)) ANNOTATIONS)
+annotation = beside (map (λ entry. (entry.0.now, entry.1)) ANNOTATIONS)
 
 -- the kind of an annotation's parameter
 abbrev pub takes : Annotation → ParameterKind

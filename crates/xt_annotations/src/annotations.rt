@@ -1,8 +1,8 @@
-ghost use Rattle.std.specs.Prelude.{◌≡◌, map, length};
+ghost use Rattle.std.specs.Prelude.{◌≡◌};
 ghost use Rattle.xt_annotations.specs.Annotations as spec;
 
 use crate::notes::Note;
-use idl_tokens::same;
+use idl_tokens::beside;
 use std::alloc::Global;
 use xt_lists::Text;
 use xt_shapes::{Ext, Try};
@@ -72,23 +72,11 @@ pub(crate) enum ParameterKind {
     Quote,
 }
 
-fn lookup(mut table: &[(&[u8], Annotation)], word: &[u8]) -> Option<Annotation>
-    ensures { result ≡ spec.lookup (map (λ k. (k.0.now, k.1)) table.entry.now) word.now }
-{
-    while let [entry, rest @ ..] = table {
-        if same(entry.0, word) {
-            return Some(entry.1);
-        }
-        table = rest;
-    }
-    None
-}
-
 #[tactic(auto, unfolding(crate::specs::Annotations::annotation))]
 pub(crate) fn annotation_named(word: &[u8]) -> Option<Annotation>
     ensures { result ≡ spec.annotation word.now }
 {
-    lookup(&ANNOTATIONS, word)
+    beside(&ANNOTATIONS, word)
 }
 
 pub(crate) fn parameter_kind(annotation: Annotation) -> ParameterKind

@@ -32,13 +32,10 @@ pub fn fill<S: Source>(source: &mut S, into: &mut [u8]) -> Result<usize, Failed>
 }
 
 /// Reads this many octets, or as many as there are left. Memory is taken only for octets that came.
-pub(crate) fn read_text<S: Source>(
-    alloc: Global,
-    source: &mut S,
-    most: usize,
-) -> Result<Text, RecordFault>
+pub fn read_text<S: Source>(alloc: Global, source: &mut S, most: usize) -> Result<Text, RecordFault>
     ensures octets { IfOk result (λ t. TakesUpTo most (S.left source.old) (S.left source.new) t) }
     ensures within { IfOk result (λ t. length t ≤ most) }
+    ensures end { IfOk result (λ t. length t < most → IsAtEnd (S.left source.new)) }
     ensures fault { IfErr result IsOutside }
     ensures cause { HasReadCause (S.faults source.old) (S.faults source.new) result }
     ensures same { S.name source.new ≡ S.name source.old }

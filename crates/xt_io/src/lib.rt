@@ -9,7 +9,7 @@ mod record;
 mod tests;
 
 pub use bundle::{BundleReader, Pending};
-pub use filling::fill;
+pub use filling::{fill, read_text};
 pub use laws::{records_are_a_bundle, records_are_read};
 pub use record::write_record;
 pub use xt_outside::{
