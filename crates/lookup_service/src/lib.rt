@@ -1,0 +1,13 @@
+//! The service of TypeLookup (DDS-XTypes 1.3, 7.6.3.3): sessions that answer the requests that come over a link. Links with frames, the
+//! limit and how a session ends are this profile's own.
+#![tactic(auto)]
+
+mod ended;
+mod gate;
+mod sessions;
+#[cfg(test)]
+mod tests;
+
+pub use ended::Ended;
+pub use gate::{Gate, NoGate};
+pub use sessions::session;
