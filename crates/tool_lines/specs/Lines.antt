@@ -31,9 +31,12 @@ use Rattle.json_values.specs.Words as json_words
 abbrev pub no_text : Rule → List Step → List ℕ
 no_text rule path = codes "no " ++ rule_text rule ++ codes " " ++ path_text path
 
+abbrev pub no_refusal : Rule → List Step → Refusal
+no_refusal rule path = record { text = no_text rule path; cause = No }
+
 abbrev pub unless_failed : First → Result (Unit {0}) Refusal
 unless_failed None = Ok tt
-unless_failed (Some failure) = Err (record { text = no_text failure.0 failure.1; cause = No })
+unless_failed (Some failure) = Err (no_refusal failure.0 failure.1)
 
 -- whether the reader's type is assignable from the writer's, or else the first rule that fails
 abbrev pub judged : Policy → Rep → Tree → Tree → Result (Unit {0}) Refusal
@@ -53,14 +56,21 @@ outcome_text t (Ok discarded) = codes "discarded"
 outcome_text t (Ok must_understand) = codes "must-understand"
 outcome_text t (Err fault) = malformed_text fault
 
+abbrev pub outcome_line : Tree → Result Outcome Fault → List ℕ
+outcome_line t read = outcome_text t read ++ 10 ∷ []
+
 -- the line of a payload, by the reader's type alone
 abbrev pub sample_line : Rep → Tree → List ℕ → List ℕ
-sample_line rep t payload = outcome_text t (read_sample rep (shape t) payload) ++ 10 ∷ []
+sample_line rep t payload = outcome_line t (read_sample rep (shape t) payload)
 
 -- ---- the turns of `read`, `convert` and `write`
 
+-- one piece for a sample, by what the reader's type makes of it
+abbrev pub shown_turn : Rep → (Result Outcome Fault → List ℕ) → Tree → ℕ → Item → Unit {0} → Turn (Unit {0})
+shown_turn rep piece t k item u = goes_on (piece (read_sample rep (shape t) item.payload) ∷ []) u
+
 abbrev pub read_turn : Rep → Tree → ℕ → Item → Unit {0} → Turn (Unit {0})
-read_turn rep t k item u = goes_on (sample_line rep t item.payload ∷ []) u
+read_turn rep t = shown_turn rep (outcome_line t) t
 
 abbrev pub most_octets : ℕ
 most_octets = 1048576
@@ -73,7 +83,7 @@ converted to t (Ok must_understand) = record_octets Note (codes "must-understand
 converted to t (Err fault) = record_octets Note (malformed_text fault)
 
 abbrev pub convert_turn : Rep → Rep → Tree → ℕ → Item → Unit {0} → Turn (Unit {0})
-convert_turn rep to t k item u = goes_on (converted to t (read_sample rep (shape t) item.payload) ∷ []) u
+convert_turn rep to t = shown_turn rep (converted to t) t
 
 abbrev pub json_refusal : ℕ → List ℕ → Refusal
 json_refusal k what = record { text = codes "json " ++ decimal k ++ 32 ∷ what; cause = JsonFault }

@@ -1,10 +1,12 @@
-//! The words of lines: the verdict, and the outcomes of samples.
+//! The words of lines, the verdict and the outcomes of samples; and the records of samples.
 #![tactic(auto)]
 
 mod outcomes;
+mod records;
 #[cfg(test)]
 mod tests;
 mod verdicts;
 
 pub use outcomes::{malformed_text, outcome_text};
+pub use records::sample_record;
 pub use verdicts::no_text;

@@ -1,42 +1,44 @@
 ghost use Rattle.std.specs.Prelude.{◌≡◌};
 ghost use Rattle.projection_laws.specs.Premises.{IsValid};
 
-use crate::sampling::sample_line;
+use crate::forms::Shows;
+use crate::sampling::sample_piece;
 use std::alloc::Global;
 use tool_output::{Stop, Turns, say};
 use type_trees::XType;
 use xt_io::{BundleReader, Head, Kind, Sink, Source};
 
-/// A line for each sample, by the reader's type.
+/// A piece for each sample, by the reader's type, in the form that is asked.
 #[derive(Drop)]
-pub struct Samples {
+pub struct Samples<F> {
     ty: XType,
+    form: F,
     ghost valid: { IsValid ty },
 }
 
-impl Samples {
-    pub fn new(ty: XType) -> Samples
+impl<F: Shows + Drop> Samples<F> {
+    pub fn new(ty: XType, form: F) -> Samples<F>
         requires { IsValid ty }
-        ensures { result.ty ≡ ty }
+        ensures ty { result.ty ≡ ty }
+        ensures form { result.form ≡ form }
     {
-        Samples { ty }
+        Samples { ty, form }
     }
 }
 
-impl Turns for Samples {
+impl<F: Shows + Drop> Turns for Samples<F> {
     ghost use Rattle.type_trees.specs.View.{tree};
     ghost use Rattle.xt_io.specs.declared.Kind.TheVariants.{Sample};
     ghost use Rattle.xt_shapes.specs.declared.leaves.Rep.TheVariants.{Xcdr2};
-    ghost use Rattle.tool_output.specs.declared.ending.Style.TheVariants.{Lines};
     ghost use Rattle.tool_output.specs.Outputs.{run, taking, finished, same_kind};
     ghost use Rattle.tool_output.proofs.Turning.{run_at_fault, run_at_other};
-    ghost use Rattle.tool_lines.specs.Lines.{read_turn};
+    ghost use Rattle.tool_lines.specs.Lines.{shown_turn};
 
-    ghost style = { Lines };
+    ghost style = { F.style };
 
     ghost kinds = { λ kind. same_kind kind Sample };
 
-    ghost to_write = { λ s k bundle. run Lines (taking Sample (read_turn Xcdr2 (tree s.ty))) (λ u. finished) tt k bundle };
+    ghost to_write = { λ s k bundle. run F.style (taking Sample (shown_turn Xcdr2 (F.piece s.form (tree s.ty)) (tree s.ty))) (λ u. finished) tt k bundle };
 
     fn takes(kind: Kind) -> bool {
         match kind {
@@ -53,17 +55,17 @@ impl Turns for Samples {
         reader: BundleReader<S>,
         sink: &mut K,
     ) -> (BundleReader<S>, Result<(), Stop>) {
-        let (back, read) = sample_line(alloc, &self.ty, head, reader);
-        match read {
+        let (back, shown) = sample_piece(alloc, &self.form, &self.ty, head, reader);
+        match shown {
             Err(stop) => (back, Err(stop)),
-            Ok(line) => match say(sink, line.octets()) {
+            Ok(piece) => match say(sink, piece.octets()) {
                 Ok(()) => (back, Ok(())),
                 Err(halt) => (back, Err(Stop::Halted(halt))),
             },
         }
     }
 
-    ghost at_fault = { λ s k fault. run_at_fault Lines (taking Sample (read_turn Xcdr2 (tree s.ty))) (λ u. finished) tt k fault };
+    ghost at_fault = { λ s k fault. run_at_fault F.style (taking Sample (shown_turn Xcdr2 (F.piece s.form (tree s.ty)) (tree s.ty))) (λ u. finished) tt k fault };
 
-    ghost at_other = { λ s k item more other. run_at_other Lines Sample (read_turn Xcdr2 (tree s.ty)) (λ u. finished) tt k item more other };
+    ghost at_other = { λ s k item more other. run_at_other F.style Sample (shown_turn Xcdr2 (F.piece s.form (tree s.ty)) (tree s.ty)) (λ u. finished) tt k item more other };
 }

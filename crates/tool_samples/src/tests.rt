@@ -1,4 +1,4 @@
-use crate::Samples;
+use crate::{Lines, Samples};
 use std::test::Fail;
 use tool_output::{Cause, Ending, Stop, Style, last, next_of, run_body};
 use type_rules::check_type;
@@ -19,7 +19,7 @@ fn each_sample_has_a_line(rt: HostRuntime) -> Result<(), Fail> {
     if check_type(&ty).is_err() {
         panic!(rt; "no valid type");
     }
-    let mut turns = Samples::new(ty);
+    let mut turns = Samples::new(ty, Lines);
     let mut sink = MemSink::new(alloc, 4096, &[]);
     let mut reader = BundleReader::new(MemSource::new(BODY, 3, &[]));
     let Ok(next) = next_of(&mut reader) else {

@@ -4,11 +4,15 @@
 
 use std::alloc::Global;
 use std::env;
+use std::io::BufReader;
 use std::process::ExitCode;
 use std::rt::Env;
 use xt_io::{ReadSource, TcpNet, WriteSink};
 use xt_lists::{OutOfMemory, Row, Word};
 use xt_tool::{Status, xt};
+
+// The octets of standard input that are read in one call.
+const BLOCK: usize = 65_536;
 
 // The words behind the program's name. Arguments that are no UTF-8 are no words.
 fn words_of(rt: &(impl Env + AllocGlobal)) -> Result<Row<Word>, OutOfMemory> {
@@ -26,7 +30,10 @@ fn main(rt: HostRuntime) -> ExitCode {
     let Ok(words) = words_of(&rt) else {
         return ExitCode::from(Status::OutOfMemory as u8);
     };
-    let mut input = ReadSource::new(rt.stdin());
+    let Ok(stdin) = BufReader::with_capacity(rt.alloc(), BLOCK, rt.stdin()) else {
+        return ExitCode::from(Status::OutOfMemory as u8);
+    };
+    let mut input = ReadSource::new(stdin);
     let mut output = WriteSink::new(rt.stdout());
     let mut net = TcpNet::new(&rt);
     let status = xt(

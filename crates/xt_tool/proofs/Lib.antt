@@ -1,3 +1,2 @@
-pub mod Longs
-pub mod Bodies
+pub mod Headlines
 pub mod Tops

@@ -1,5 +1,3 @@
-pub mod Words
-pub mod Idl
-pub mod Samples
 pub mod Output
-pub mod Runs
+pub mod Statuses
+pub mod Headline

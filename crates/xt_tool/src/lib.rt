@@ -1,16 +1,13 @@
 //! The top call: it does what the words of a command line ask, from a source to a sink.
 #![tactic(auto)]
 
-mod command;
-mod halt;
-mod idl;
-mod line;
-mod read;
-mod sample;
+mod laws;
+mod run;
 mod status;
 #[cfg(test)]
 mod tests;
 mod top;
 
+pub use laws::{headline, refused};
 pub use status::Status;
 pub use top::xt;

@@ -1,3 +1,8 @@
+ghost use Rattle.std.specs.Prelude.{◌≡◌};
+ghost use Rattle.xt_tool.specs.Statuses as spec;
+
+use tool_output::{Cause, Ending};
+
 /// How a run ended. Its number is the program's exit status.
 #[derive(Debug, Clone, Copy, PartialEq, Eq)]
 pub enum Status {
@@ -25,4 +30,32 @@ pub enum Status {
     Json,
     /// What was fetched was refused.
     Fetch,
+    /// There are more instances than are kept.
+    Limit,
+}
+
+fn status_of_cause(cause: Cause) -> Status
+    ensures { result ≡ spec.status_of_cause cause }
+{
+    match cause {
+        Cause::No => Status::No,
+        Cause::Words => Status::Words,
+        Cause::Bundle => Status::Bundle,
+        Cause::Types => Status::Types,
+        Cause::NoName => Status::NoName,
+        Cause::NetFault => Status::NetFault,
+        Cause::Json => Status::Json,
+        Cause::Fetch => Status::Fetch,
+        Cause::Limit => Status::Limit,
+    }
+}
+
+/// The status of a run that neither the outside nor want of memory stopped.
+pub fn status_of(ending: Ending) -> Status
+    ensures { result ≡ spec.status_of ending }
+{
+    match ending {
+        Ending::Done => Status::Done,
+        Ending::Refused(cause) => status_of_cause(cause),
+    }
 }

@@ -1,0 +1,47 @@
+ghost use Rattle.std.specs.Prelude.{◌≡◌, ◌≤◌, Some, length};
+ghost use Rattle.tool_output.specs.Outputs.{finished, unless_refused};
+ghost use Rattle.tool_output.specs.Runs.{Steps, StopsWriting};
+ghost use Rattle.tool_front.specs.Reading.{AreWithin};
+ghost use Rattle.tool_runs.specs.Commands.{answer_to};
+ghost use Rattle.tool_words.specs.View.{pair_view};
+ghost use Rattle.tool_commands.specs.Commands.{judge_lines};
+
+use std::alloc::Global;
+use tool_output::{Stop, Style};
+use tool_runs::{Answers, say_pieces};
+use tool_verdicts::reader_type;
+use tool_words::Pair;
+use xt_io::{Item, Sink};
+
+/// Whether the reader's type is assignable from the writer's: `yes`, or the first rule that fails and its path.
+#[derive(Clone, Copy)]
+pub struct Judging<'a> {
+    pub pair: Pair<'a>,
+}
+
+impl<'a> Answers for Judging<'a> {
+    ghost use Rattle.tool_output.specs.declared.ending.Style.TheVariants as styles;
+
+    ghost style = { styles.Lines };
+
+    ghost answered = { λ s records. judge_lines (pair_view s.pair) records };
+
+    fn writes() -> Style
+        ensures { result ≡ Style.Lines }
+    {
+        Style::Lines
+    }
+
+    fn answer<K: Sink>(&self, alloc: Global, records: &[Item], sink: &mut K) -> Result<(), Stop>
+        requires few { length records.now ≤ 1048576 }
+        requires within { AreWithin records.now }
+        ensures steps { Steps Style.Lines (Some (unless_refused Style.Lines (answer_to (judge_lines (pair_view self.now.pair)) records.now))) (Some finished) result (K.taken sink.old) (K.taken sink.new) }
+        ensures stops { StopsWriting (K.faults sink.old) (K.faults sink.new) result }
+        ensures same { K.name sink.new ≡ K.name sink.old }
+    {
+        match reader_type(alloc, &self.pair, records) {
+            Err(stop) => Err(stop),
+            Ok(_) => say_pieces(sink, b"yes\n"),
+        }
+    }
+}

@@ -1,0 +1,136 @@
+-- How the run of a command comes together.
+use Rattle.std.proofs.Common.{◌∙◌, ◌≡◌, ℕ, List, ◌++◌, append_assoc, length, None, Some, Result, Ok, Err, refl, sym, ap, subst}
+use Rattle.std.specs.declared.option.Option.{Option}
+use Rattle.std.specs.List.{concat}
+use Rattle.std.specs.Option.{option_map}
+use Rattle.std.specs.Io.KnownBytes.{Appends}
+use Rattle.std.proofs.KnownBytes.{Appends-nil}
+use Rattle.xt_io.specs.declared.Item.{Item}
+use Rattle.xt_io.specs.Bundles.{Bundle, nothing}
+use Rattle.xt_io.specs.Outside.{AppendsPrefix}
+use Rattle.xt_io.specs.Readers.{Reading}
+use Rattle.tool_output.specs.declared.ending.Ending.{Ending}
+use Rattle.tool_output.specs.declared.ending.Ending.TheVariants.{Done}
+use Rattle.tool_output.specs.declared.ending.Style.{Style}
+use Rattle.tool_output.specs.declared.halt.Halt.{Halt}
+use Rattle.tool_output.specs.declared.halt.Halt.TheVariants as halts
+use Rattle.tool_output.specs.declared.stop.Stop.{Stop}
+use Rattle.tool_output.specs.declared.stop.Stop.TheVariants as stops
+use Rattle.tool_output.specs.Outputs.{after_pieces, text_of, Output, Refusal, ◌>>=◌, unless_refused, finished}
+use Rattle.tool_output.specs.Runs.{Writes, Leads, Steps, Comes, ComesTold, at_number, coming, told_refusal}
+use Rattle.tool_output.proofs.Written.{concat-append, writes_on, stops_here}
+use Rattle.tool_front.specs.declared.front.Front.{Front as Read}
+use Rattle.tool_front.specs.Fronts.{Front, closed}
+use Rattle.tool_front.specs.Reading.{FrontIs, GivesFront}
+use Rattle.tool_runs.specs.Commands.{answer_to, command_output, with_body, with_end}
+use Rattle.tool_runs.specs.Stopping.{Concludes}
+
+pub halted : (output : Option Output) (halt : Halt) (result : Result Ending Halt) (old mid new : Option (List ℕ)) → Writes output (Err halt) old mid → result ≡ Err halt → new ≡ mid → Writes output result old new
+halted output halt result old mid new p e f = rw (e, f) p
+
+-- a step that stopped, and how the command ended
+pub concluded : (T : Type 0) (style : Style) (output rest : Option Output) (stop : Stop) (result : Result Ending Halt) (old mid new : Option (List ℕ)) → Steps {T = T} style output rest (Err stop) old mid → Concludes style stop result mid new → Writes output result old new
+concluded T style None rest (stops.Refused r) result old mid new p q = tt
+concluded T style (Some output) rest (stops.Refused r) result old mid new p q = writes_on (Some output) (told_refusal style (Some output) r) result old mid new p q
+concluded T style output rest (stops.Halted halt) result old mid new p q = halted output halt result old mid new p q.0 q.1
+
+-- all that was to be written was
+pub all_done : (first : Option Output) (last : Output) (old new : Option (List ℕ)) → last ≡ finished → Leads first (Some last) old new → Writes first (Ok Done) old new
+all_done first last old new e p = writes_on first (Some last) (Ok Done) old new new p (subst (λ (o : Output). Writes (Some o) (Ok Done) new new) (sym e) (record { ending = refl; text = Appends-nil new }))
+
+-- ---- the front
+
+pub front_given : (style : Style) (behind : Front → Result Output Refusal) (before : Bundle) (records : List Item) (body : Option Bundle) (result : Result Ending Halt) (old new : Option (List ℕ)) → GivesFront before records body
+    → Writes (option_map (λ b. unless_refused style (behind (record { records = records; body = b }))) body) result old new → Writes (Some (command_output style behind before)) result old new
+front_given style behind before records None result old new p q = absurd p
+front_given style behind before records (Some body) result old new p q =
+    subst (λ (o : Output). Writes (Some o) result old new) (sym (ap (λ (f : Result Front Refusal). unless_refused style (f >>= behind)) p)) q
+
+-- what comes behind the front was written
+pub front_goes : (style : Style) (behind : Front → Result Output Refusal) (first : Option Bundle) (front : Read) (reader : Reading) (result : Result Ending Halt) (old new : Option (List ℕ)) → FrontIs first (Ok front) reader
+    → Writes (option_map (λ b. unless_refused style (behind (record { records = front.records; body = b }))) (coming front.next reader)) result old new → Writes (option_map (command_output style behind) first) result old new
+front_goes style behind None front reader result old new p q = tt
+front_goes style behind (Some before) front reader result old new p q = front_given style behind before front.records (coming front.next reader) result old new p q
+
+-- the front is refused
+pub front_stops : (style : Style) (behind : Front → Result Output Refusal) (first : Option Bundle) (stop : Stop) (reader : Reading) (result : Result Ending Halt) (old new : Option (List ℕ)) → FrontIs first (Err stop) reader → Concludes style stop result old new
+    → Writes (option_map (command_output style behind) first) result old new
+front_stops style behind None stop reader result old new p q = tt
+front_stops style behind (Some before) (stops.Refused r) reader result old new p q =
+    subst (λ (o : Output). Writes (Some o) result old new) (sym (ap (λ (f : Result Front Refusal). unless_refused style (f >>= behind)) p)) q
+front_stops style behind (Some before) (stops.Halted halt) reader result old new p q = halted (Some (command_output style behind before)) halt result old old new (stops_here (Some (command_output style behind before)) halt old) q.0 q.1
+
+-- ---- a body
+
+-- what the records come to is refused
+pub prepared_stops : {X : Type 0} (style : Style) (prepared : List Item → Result (ℕ → Bundle → Output) Refusal) (records : List Item) (view : X → ℕ → Bundle → Output) (body : Option Bundle) (stop : Stop) (result : Result Ending Halt) (old new : Option (List ℕ)) → Comes (prepared records) view (Err stop) → Concludes style stop result old new
+    → Writes (option_map (λ b. unless_refused style (with_body prepared records b)) body) result old new
+prepared_stops style prepared records view None (stops.Refused r) result old new p q = tt
+prepared_stops style prepared records view (Some body) (stops.Refused r) result old new p q =
+    let written : Result (ℕ → Bundle → Output) Refusal → Output = λ found. unless_refused style (found >>= λ write. Ok (write (length records) body)) in
+    subst (λ (o : Output). Writes (Some o) result old new) (sym (ap written p)) q
+prepared_stops style prepared records view body (stops.Halted halt) result old new p q =
+    let output = option_map (λ (b : Bundle). unless_refused style (with_body prepared records b)) body in
+    halted output halt result old old new (stops_here output halt old) q.0 q.1
+
+-- the turns are there
+pub prepared_goes : (style : Style) (prepared : List Item → Result (ℕ → Bundle → Output) Refusal) (records : List Item) (write : ℕ → Bundle → Output) (body : Option Bundle) (result : Result Ending Halt) (old new : Option (List ℕ)) → prepared records ≡ Ok write → Writes (option_map (write (length records)) body) result old new
+    → Writes (option_map (λ b. unless_refused style (with_body prepared records b)) body) result old new
+prepared_goes style prepared records write None result old new p q = tt
+prepared_goes style prepared records write (Some body) result old new p q =
+    let written : Result (ℕ → Bundle → Output) Refusal → Output = λ found. unless_refused style (found >>= λ w. Ok (w (length records) body)) in
+    subst (λ (o : Output). Writes (Some o) result old new) (sym (ap written p)) q
+
+-- the body was read to its end
+pub ran_done : (style : Style) (prepared : List Item → Result (ℕ → Bundle → Output) Refusal) (records : List Item) (write last : ℕ → Bundle → Output) (n k : ℕ) (body : Option Bundle) (r : Result ℕ Stop) (old new : Option (List ℕ)) → prepared records ≡ Ok write → n ≡ length records → ((i : ℕ) → last i nothing ≡ finished)
+    → Steps style (option_map (write n) body) (at_number (λ i. last i nothing) r) r old new → r ≡ Ok k → Writes (option_map (λ b. unless_refused style (with_body prepared records b)) body) (Ok Done) old new
+ran_done style prepared records write last n k body r old new e count ends steps is =
+    let lead = subst (λ (x : Result ℕ Stop). Steps style (option_map (write n) body) (at_number (λ i. last i nothing) x) x old new) is steps in
+    let done = all_done (option_map (write n) body) (last k nothing) old new (ends k) lead in
+    prepared_goes style prepared records write body (Ok Done) old new e (subst (λ (x : ℕ). Writes (option_map (write x) body) (Ok Done) old new) count done)
+
+-- a turn stopped
+pub ran_stopped : (style : Style) (prepared : List Item → Result (ℕ → Bundle → Output) Refusal) (records : List Item) (write : ℕ → Bundle → Output) (n : ℕ) (body : Option Bundle) (rest : Option Output) (r : Result ℕ Stop) (stop : Stop) (result : Result Ending Halt) (old mid new : Option (List ℕ)) → prepared records ≡ Ok write → n ≡ length records
+    → Steps style (option_map (write n) body) rest r old mid → r ≡ Err stop → Concludes style stop result mid new → Writes (option_map (λ b. unless_refused style (with_body prepared records b)) body) result old new
+ran_stopped style prepared records write n body rest r stop result old mid new e count steps is ends =
+    let step = subst (λ (x : Result ℕ Stop). Steps style (option_map (write n) body) rest x old mid) is steps in
+    let wrote = concluded ℕ style (option_map (write n) body) rest stop result old mid new step ends in
+    prepared_goes style prepared records write body result old new e (subst (λ (x : ℕ). Writes (option_map (write x) body) result old new) count wrote)
+
+-- ---- nothing behind the front
+
+-- the rest of the input is refused
+pub closed_stops : {X : Type 0} (style : Style) (answered : List Item → Result (List (List ℕ)) Refusal) (records : List Item) (view : X → Unit {0}) (body : Option Bundle) (stop : Stop) (result : Result Ending Halt) (old new : Option (List ℕ)) → ComesTold (option_map closed body) view (Err stop) → Concludes style stop result old new
+    → Writes (option_map (λ b. unless_refused style (with_end answered records b)) body) result old new
+closed_stops style answered records view None (stops.Refused r) result old new p q = tt
+closed_stops style answered records view (Some body) (stops.Refused r) result old new p q =
+    let written : Result (Unit {0}) Refusal → Output = λ shut. unless_refused style (shut >>= λ u. answer_to answered records) in
+    subst (λ (o : Output). Writes (Some o) result old new) (sym (ap written p)) q
+closed_stops style answered records view body (stops.Halted halt) result old new p q =
+    let output = option_map (λ (b : Bundle). unless_refused style (with_end answered records b)) body in
+    halted output halt result old old new (stops_here output halt old) q.0 q.1
+
+-- it was read to its end
+pub closed_goes : (style : Style) (answered : List Item → Result (List (List ℕ)) Refusal) (records : List Item) (body : Option Bundle) (result : Result Ending Halt) (old new : Option (List ℕ)) → ComesTold {X = Unit {0}} (option_map closed body) (λ u. u) (Ok tt)
+    → Writes (Some (unless_refused style (answer_to answered records))) result old new → Writes (option_map (λ b. unless_refused style (with_end answered records b)) body) result old new
+closed_goes style answered records None result old new p q = tt
+closed_goes style answered records (Some body) result old new p q =
+    let written : Result (Unit {0}) Refusal → Output = λ shut. unless_refused style (shut >>= λ u. answer_to answered records) in
+    subst (λ (o : Output). Writes (Some o) result old new) (sym (ap written p)) q
+
+-- ---- pieces
+
+-- the text of all of them was written
+pub pieces_went : (pieces : List (List ℕ)) (rest : Output) (text : List ℕ) (old new : Option (List ℕ)) → text ≡ concat pieces → Appends old new text → Leads (Some (after_pieces pieces rest)) (Some rest) old new
+pieces_went pieces rest text old new e p = (pieces, refl, subst (Appends old new) e p)
+
+prefix_of_all : (pieces : List (List ℕ)) (rest : Output) (text : List ℕ) (old new : Option (List ℕ)) → text ≡ concat pieces → AppendsPrefix old new text → AppendsPrefix old new (text_of (after_pieces pieces rest))
+prefix_of_all pieces rest text old new e p =
+    let (some, back, split, appended) = p in
+    (some, back ++ text_of rest, concat-append pieces rest.pieces ∙ ap (λ l. l ++ text_of rest) (sym e ∙ split) ∙ append_assoc some back (text_of rest), appended)
+
+-- a beginning of it
+pub pieces_stayed : (pieces : List (List ℕ)) (rest : Output) (text : List ℕ) (halt : Halt) (old new : Option (List ℕ)) → text ≡ concat pieces → AppendsPrefix old new text → (halt ≡ halts.ReadFault → ⊥) → Writes (Some (after_pieces pieces rest)) (Err halt) old new
+pieces_stayed pieces rest text halts.ReadFault old new e p no_read = absurd (no_read refl)
+pieces_stayed pieces rest text halts.WriteFault old new e p no_read = prefix_of_all pieces rest text old new e p
+pieces_stayed pieces rest text halts.OutOfMemory old new e p no_read = prefix_of_all pieces rest text old new e p

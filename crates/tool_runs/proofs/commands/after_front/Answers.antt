@@ -1,0 +1,11 @@
+use Rattle.std.proofs.Common.{subst}
+use Rattle.tool_output.specs.declared.ending.Style.{Style}
+use Rattle.tool_runs.specs.Commands.{body_behind}
+use Rattle.tool_runs.specs.Stopping.{Concludes}
+use Rattle.tool_runs.proofs.Joined.{front_stops}
+use Rattle.tool_runs.proofs.commands.after_front.Goals as goal
+
+pub returns-in-Err-clause-output : goal.returns-in-Err-clause-output
+returns-in-Err-clause-output g c =
+    let ends = subst (λ (s : Style). Concludes s c.in-Err.stop c.stopped.result (g.K.Sink.taken c.args.sink.now) (g.K.Sink.taken c.stopped.new.sink)) c.style.ensures c.stopped.ensures.concludes in
+    front_stops g.P.Run.Turns.style (body_behind (g.P.Prepares.prepared c.args.command.now)) c.args.reader.ahead c.in-Err.stop c.read_front.new.reader c.stopped.result (g.K.Sink.taken c.args.sink.now) (g.K.Sink.taken c.stopped.new.sink) c.in-Err.ensures.front ends

@@ -1,0 +1,16 @@
+use Rattle.std.proofs.Common.{Result, subst}
+use Rattle.std.specs.Option.{option_map}
+use Rattle.tool_output.specs.declared.ending.Style.{Style}
+use Rattle.tool_output.specs.declared.stop.Stop.{Stop}
+use Rattle.tool_output.specs.Runs.{ComesTold, coming}
+use Rattle.tool_front.specs.Fronts.{closed}
+use Rattle.tool_runs.specs.Stopping.{Concludes}
+use Rattle.tool_runs.proofs.Joined.{closed_stops}
+use Rattle.tool_runs.proofs.commands.answer_behind.Goals as goal
+
+pub returns-in-Err-clause-output : goal.returns-in-Err-clause-output
+returns-in-Err-clause-output g c =
+    let body = coming c.args.front.next c.args.reader in
+    let told = subst (λ (r : Result (Unit {0}) Stop). ComesTold {X = Unit {0}} (option_map closed body) (λ u. u) r) c.in-Err.is c.close_body-back.ensures.closed in
+    let ends = subst (λ (s : Style). Concludes s c.in-Err.stop c.stopped.result (g.K.Sink.taken c.args.sink.now) (g.K.Sink.taken c.stopped.new.sink)) c.writes.ensures c.stopped.ensures.concludes in
+    closed_stops {X = Unit {0}} g.P.Answers.style (g.P.Answers.answered c.args.command.now) c.args.front.records (λ u. u) body c.in-Err.stop c.stopped.result (g.K.Sink.taken c.args.sink.now) (g.K.Sink.taken c.stopped.new.sink) told ends

@@ -1,0 +1,267 @@
+//! Commands that read a bundle: with a body, a turn for each of its records; without one, one answer.
+ghost use Rattle.std.specs.Prelude.{◌≡◌, ◌≤◌, ◌+◌, ℕ, List, Ok, Some, None, length};
+ghost use Rattle.std.specs.List.{concat};
+ghost use Rattle.std.specs.Option.{option_map};
+ghost use Rattle.std.specs.Io.KnownBytes.{IsAtEnd};
+ghost use Rattle.xt_io.specs.Bundles.{bundle};
+ghost use Rattle.tool_output.specs.Outputs.{Output, after_pieces, unless_refused};
+ghost use Rattle.tool_output.specs.Runs.{Halts, HaltsWriting, MayGo, Steps, StopsWriting, Writes, coming, turns_left};
+ghost use Rattle.tool_front.specs.Reading.{AreWithin};
+ghost use Rattle.tool_runs.specs.Commands.{answer_to, body_behind, command_output, ends_behind, with_body, with_end};
+ghost use Rattle.tool_runs.specs.Stopping.{Concludes, StopsSo};
+
+use crate::closing::close_body;
+use std::alloc::Global;
+use tool_front::{Front, read_front};
+use tool_output::{Ending, Halt, Stop, Style, Turns, last, run_body, say};
+use xt_io::{BundleReader, Item, Sink, Source};
+
+/// What the records of a front come to before a body: a turn for each record that follows.
+pub trait Prepares {
+    ghost use Rattle.std.specs.Prelude.{◌≡◌, ◌≤◌, ℕ, List, Result, length};
+    ghost use Rattle.xt_io.specs.declared.Item.{Item};
+    ghost use Rattle.xt_io.specs.Bundles.{Bundle, nothing};
+    ghost use Rattle.tool_output.specs.Outputs.{Output, Refusal, finished};
+    ghost use Rattle.tool_output.specs.Runs.{Comes};
+    ghost use Rattle.tool_front.specs.Reading.{AreWithin};
+
+    /// The turns.
+    type Run: Turns + Drop;
+
+    /// What is written of a body behind these records, or why the command is refused.
+    ghost prepared: { Self → List Item → Result (ℕ → Bundle → Output) Refusal };
+
+    /// Whether the turns write lines or records.
+    fn style() -> Style
+        ensures { result ≡ Self.Run.style };
+
+    /// The turns for the body behind these records. It reads and writes nothing.
+    fn prepare(&self, alloc: Global, records: &[Item]) -> Result<Self::Run, Stop>
+        requires few { length records.now ≤ 1048576 }
+        requires within { AreWithin records.now }
+        ensures { Comes (prepared self.now records.now) Self.Run.to_write result };
+
+    /// At the end of the input nothing more is written.
+    ghost ends: { (run : Self.Run) (number : ℕ) → Self.Run.to_write run number nothing ≡ finished };
+}
+
+/// What the records of a front are answered with, where nothing follows them.
+pub trait Answers {
+    ghost use Rattle.std.specs.Prelude.{◌≡◌, ◌≤◌, ℕ, List, Result, Some, length};
+    ghost use Rattle.xt_io.specs.declared.Item.{Item};
+    ghost use Rattle.tool_output.specs.declared.ending.Style.{Style};
+    ghost use Rattle.tool_output.specs.Outputs.{Refusal, finished, unless_refused};
+    ghost use Rattle.tool_output.specs.Runs.{Steps, StopsWriting};
+    ghost use Rattle.tool_front.specs.Reading.{AreWithin};
+    ghost use Rattle.tool_runs.specs.Commands.{answer_to};
+
+    /// Whether lines or records are written.
+    ghost style: { Style };
+
+    /// The pieces that are written for these records, or why the command is refused.
+    ghost answered: { Self → List Item → Result (List (List ℕ)) Refusal };
+
+    /// Whether lines or records are written.
+    fn writes() -> Style
+        ensures { result ≡ style };
+
+    /// Writes the answer. A refusal is not written yet.
+    fn answer<K: Sink>(&self, alloc: Global, records: &[Item], sink: &mut K) -> Result<(), Stop>
+        requires few { length records.now ≤ 1048576 }
+        requires within { AreWithin records.now }
+        ensures steps { Steps style (Some (unless_refused style (answer_to (answered self.now) records.now))) (Some finished) result (K.taken sink.old) (K.taken sink.new) }
+        ensures stops { StopsWriting (K.faults sink.old) (K.faults sink.new) result }
+        ensures same { K.name sink.new ≡ K.name sink.old };
+}
+
+/// Ends a command that stopped: with its last line, where it is refused.
+pub fn stopped<K: Sink>(
+    alloc: Global,
+    style: Style,
+    stop: Stop,
+    sink: &mut K,
+) -> Result<Ending, Halt>
+    ensures concludes { Concludes style stop result (K.taken sink.old) (K.taken sink.new) }
+    ensures halts { StopsSo stop (K.faults sink.old) (K.faults sink.new) result }
+    ensures same { K.name sink.new ≡ K.name sink.old }
+{
+    match stop {
+        Stop::Refused(refused) => last(alloc, style, refused, sink),
+        Stop::Halted(halt) => Err(halt),
+    }
+}
+
+/// Writes the text that some pieces are, before what else is to be written.
+pub fn say_pieces<K: Sink>(sink: &mut K, text: &[u8]) -> Result<(), Stop>
+    ensures steps { (style : Style) (pieces : List (List ℕ)) (rest : Output) → text.now ≡ concat pieces → Steps style (Some (after_pieces pieces rest)) (Some rest) result (K.taken sink.old) (K.taken sink.new) }
+    ensures stops { StopsWriting (K.faults sink.old) (K.faults sink.new) result }
+    ensures same { K.name sink.new ≡ K.name sink.old }
+{
+    match say(sink, text) {
+        Ok(()) => Ok(()),
+        Err(halt) => Err(Stop::Halted(halt)),
+    }
+}
+
+/// A command with a body, on the bundle that the input is: its front, and a turn for each record behind it.
+pub fn body_command<P: Prepares, S: Source, K: Sink>(
+    alloc: Global,
+    command: &P,
+    input: &mut S,
+    output: &mut K,
+) -> Result<Ending, Halt>
+    ensures output { Writes (option_map (λ octets. command_output P.Run.style (body_behind (P.prepared command.now)) (bundle octets)) (S.left input.old)) result (K.taken output.old) (K.taken output.new) }
+
+    // A run that is done read its input to the end.
+    ensures ended { result ≡ Ok Ending.Done → IsAtEnd (S.left input.new) }
+    ensures halts { Halts (S.faults input.old) (S.faults input.new) (K.faults output.old) (K.faults output.new) result }
+    ensures same { K.name output.new ≡ K.name output.old }
+{
+    let reader = BundleReader::new(input);
+    let (back, ended) = after_front(alloc, command, reader, output);
+    let _input = back.end();
+    ended
+}
+
+// The front, and the body behind it.
+fn after_front<P: Prepares, S: Source, K: Sink>(
+    alloc: Global,
+    command: &P,
+    reader: BundleReader<S>,
+    sink: &mut K,
+) -> (BundleReader<S>, Result<Ending, Halt>)
+    requires good { reader.fault ≡ None }
+    requires few { reader.may_follow ≤ 1048576 }
+    ensures output { Writes (option_map (command_output P.Run.style (body_behind (P.prepared command.now))) reader.ahead) result.1 (K.taken sink.old) (K.taken sink.new) }
+    ensures ended { result.1 ≡ Ok Ending.Done → IsAtEnd result.0.left }
+    ensures halts { Halts reader.faults result.0.faults (K.faults sink.old) (K.faults sink.new) result.1 }
+    ensures same_source { result.0.name ≡ reader.name }
+    ensures same_sink { K.name sink.new ≡ K.name sink.old }
+{
+    let mut reader = reader;
+    match read_front(alloc, &mut reader) {
+        Err(stop) => (reader, stopped(alloc, P::style(), stop, sink)),
+        Ok(front) => take_body(alloc, command, front, reader, sink),
+    }
+}
+
+// The turns behind a front.
+fn take_body<P: Prepares, S: Source, K: Sink>(
+    alloc: Global,
+    command: &P,
+    front: Front,
+    reader: BundleReader<S>,
+    sink: &mut K,
+) -> (BundleReader<S>, Result<Ending, Halt>)
+    requires ready { MayGo front.next reader }
+    requires within { AreWithin front.records }
+    requires few { length front.records + turns_left front.next reader.may_follow ≤ 1048576 }
+    ensures output { Writes (option_map (λ body. unless_refused P.Run.style (with_body (P.prepared command.now) front.records body)) (coming front.next reader)) result.1 (K.taken sink.old) (K.taken sink.new) }
+    ensures ended { result.1 ≡ Ok Ending.Done → IsAtEnd result.0.left }
+    ensures halts { Halts reader.faults result.0.faults (K.faults sink.old) (K.faults sink.new) result.1 }
+    ensures same_source { result.0.name ≡ reader.name }
+    ensures same_sink { K.name sink.new ≡ K.name sink.old }
+{
+    let Front { records, next } = front;
+    match command.prepare(alloc, records.as_slice()) {
+        Err(stop) => (reader, stopped(alloc, P::style(), stop, sink)),
+        Ok(run) => {
+            let mut turns = run;
+            let number = records.len() as u32;
+            let (back, ran) = run_body(alloc, &mut turns, number, next, reader, sink);
+            match ran {
+                Ok(_) => (back, Ok(Ending::Done)),
+                Err(stop) => (back, stopped(alloc, P::style(), stop, sink)),
+            }
+        }
+    }
+}
+
+/// A command without a body, on the bundle that the input is: its front, the rest of the input, and the answer.
+pub fn answer_command<P: Answers, S: Source, K: Sink>(
+    alloc: Global,
+    command: &P,
+    input: &mut S,
+    output: &mut K,
+) -> Result<Ending, Halt>
+    ensures output { Writes (option_map (λ octets. command_output P.style (ends_behind (P.answered command.now)) (bundle octets)) (S.left input.old)) result (K.taken output.old) (K.taken output.new) }
+
+    // A run that is done read its input to the end.
+    ensures ended { result ≡ Ok Ending.Done → IsAtEnd (S.left input.new) }
+    ensures halts { Halts (S.faults input.old) (S.faults input.new) (K.faults output.old) (K.faults output.new) result }
+    ensures same { K.name output.new ≡ K.name output.old }
+{
+    let reader = BundleReader::new(input);
+    let (back, ended) = after_front_alone(alloc, command, reader, output);
+    let _input = back.end();
+    ended
+}
+
+// The front, and the answer behind it.
+fn after_front_alone<P: Answers, S: Source, K: Sink>(
+    alloc: Global,
+    command: &P,
+    reader: BundleReader<S>,
+    sink: &mut K,
+) -> (BundleReader<S>, Result<Ending, Halt>)
+    requires good { reader.fault ≡ None }
+    requires few { reader.may_follow ≤ 1048576 }
+    ensures output { Writes (option_map (command_output P.style (ends_behind (P.answered command.now))) reader.ahead) result.1 (K.taken sink.old) (K.taken sink.new) }
+    ensures ended { result.1 ≡ Ok Ending.Done → IsAtEnd result.0.left }
+    ensures halts { Halts reader.faults result.0.faults (K.faults sink.old) (K.faults sink.new) result.1 }
+    ensures same_source { result.0.name ≡ reader.name }
+    ensures same_sink { K.name sink.new ≡ K.name sink.old }
+{
+    let mut reader = reader;
+    match read_front(alloc, &mut reader) {
+        Err(stop) => (reader, stopped(alloc, P::writes(), stop, sink)),
+        Ok(front) => answer_behind(alloc, command, front, reader, sink),
+    }
+}
+
+// The rest of the input behind a front, and the answer.
+fn answer_behind<P: Answers, S: Source, K: Sink>(
+    alloc: Global,
+    command: &P,
+    front: Front,
+    reader: BundleReader<S>,
+    sink: &mut K,
+) -> (BundleReader<S>, Result<Ending, Halt>)
+    requires ready { MayGo front.next reader }
+    requires within { AreWithin front.records }
+    requires few { length front.records + turns_left front.next reader.may_follow ≤ 1048576 }
+    ensures output { Writes (option_map (λ body. unless_refused P.style (with_end (P.answered command.now) front.records body)) (coming front.next reader)) result.1 (K.taken sink.old) (K.taken sink.new) }
+    ensures ended { result.1 ≡ Ok Ending.Done → IsAtEnd result.0.left }
+    ensures halts { Halts reader.faults result.0.faults (K.faults sink.old) (K.faults sink.new) result.1 }
+    ensures same_source { result.0.name ≡ reader.name }
+    ensures same_sink { K.name sink.new ≡ K.name sink.old }
+{
+    let Front { records, next } = front;
+    let (back, closed) = close_body(alloc, next, reader);
+    match closed {
+        Err(stop) => (back, stopped(alloc, P::writes(), stop, sink)),
+        Ok(()) => {
+            let ended = answer_ended(alloc, command, records.as_slice(), sink);
+            (back, ended)
+        }
+    }
+}
+
+// The answer where the input was read to its end.
+fn answer_ended<P: Answers, K: Sink>(
+    alloc: Global,
+    command: &P,
+    records: &[Item],
+    sink: &mut K,
+) -> Result<Ending, Halt>
+    requires few { length records.now ≤ 1048576 }
+    requires within { AreWithin records.now }
+    ensures output { Writes (Some (unless_refused P.style (answer_to (P.answered command.now) records.now))) result (K.taken sink.old) (K.taken sink.new) }
+    ensures halts { HaltsWriting (K.faults sink.old) (K.faults sink.new) result }
+    ensures same { K.name sink.new ≡ K.name sink.old }
+{
+    match command.answer(alloc, records, sink) {
+        Err(stop) => stopped(alloc, P::writes(), stop, sink),
+        Ok(()) => Ok(Ending::Done),
+    }
+}

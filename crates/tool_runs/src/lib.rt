@@ -1,0 +1,8 @@
+//! Runs of commands from the bundle on: the front, what its records come to, and the body, up to the last line.
+#![tactic(auto)]
+
+mod closing;
+mod commands;
+
+pub use closing::close_body;
+pub use commands::{Answers, Prepares, answer_command, body_command, say_pieces, stopped};

@@ -1,0 +1,115 @@
+//! What is written of a sample: a line of its value, or a sample of its value in another representation.
+ghost use Rattle.std.specs.Prelude.{◌≡◌, ◌++◌, Ok, Err, IfOk};
+ghost use Rattle.type_trees.specs.View.{tree, val};
+ghost use Rattle.type_rules.specs.Valid.{type_fault};
+ghost use Rattle.xcdr_model.specs.Samples.{sample};
+ghost use Rattle.tool_lines.specs.Lines as lines;
+
+use settled_parts::Outcome;
+use std::alloc::Global;
+use tool_lines::{malformed_text, outcome_text, sample_record};
+use tool_output::{line, record};
+use type_trees::{Value, XType};
+use xcdr_model::Why;
+use xcdr_writer::size_of_sample;
+use xt_io::Kind;
+use xt_lists::{OutOfMemory, Text};
+use xt_shapes::Rep;
+
+/// What is written of each sample that is read.
+pub trait Shows {
+    ghost use Rattle.std.specs.Prelude.{◌≡◌, ℕ, List, Result, Ok, Err, IfOk};
+    ghost use Rattle.type_trees.specs.Trees.{Tree};
+    ghost use Rattle.type_trees.specs.View.{tree};
+    ghost use Rattle.settled_parts.specs.Settling.{outcome_val};
+    ghost use Rattle.projection_laws.specs.Premises.{IsValid};
+    ghost use Rattle.xcdr_model.specs.Samples as samples;
+    ghost use Rattle.xcdr_model.specs.declared.malformed.Fault.{Fault};
+    ghost use Rattle.tool_output.specs.declared.ending.Style.{Style};
+
+    /// Whether lines or records are written.
+    ghost style: { Style };
+
+    /// The piece for what the reader's type makes of a sample.
+    ghost piece: { Self → Tree → Result samples.Outcome Fault → List ℕ };
+
+    /// The piece for a value, or for a sample that is discarded or must be understood.
+    fn outcome(&self, alloc: Global, ty: &XType, outcome: &Outcome) -> Result<Text, OutOfMemory>
+        requires { IsValid ty.now }
+        ensures { IfOk result (λ text. text ≡ piece self.now (tree ty.now) (Ok (outcome_val outcome.now))) };
+
+    /// The piece for a malformed sample: the place of the first fault, and why.
+    fn malformed(&self, alloc: Global, ty: &XType, at: u64, why: Why) -> Result<Text, OutOfMemory>
+        ensures { IfOk result (λ text. text ≡ piece self.now (tree ty.now) (Err (record { at = at; why = why }))) };
+}
+
+/// A line for each sample, with its value as JSON.
+#[derive(Debug, Clone, Copy)]
+pub struct Lines;
+
+impl Shows for Lines {
+    ghost use Rattle.tool_output.specs.declared.ending.Style.TheVariants as styles;
+    ghost use Rattle.tool_lines.specs.Lines.{outcome_line};
+
+    ghost style = { styles.Lines };
+
+    ghost piece = { λ s t read. outcome_line t read };
+
+    fn outcome(&self, alloc: Global, ty: &XType, outcome: &Outcome) -> Result<Text, OutOfMemory> {
+        line(outcome_text(alloc, ty, outcome)?)
+    }
+
+    fn malformed(
+        &self,
+        alloc: Global,
+        _ty: &XType,
+        at: u64,
+        why: Why,
+    ) -> Result<Text, OutOfMemory> {
+        line(malformed_text(alloc, at, why)?)
+    }
+}
+
+/// A sample of each value in a representation, or a Note of why there is none.
+#[derive(Debug, Clone, Copy)]
+pub struct Conversions {
+    pub to: Rep,
+}
+
+impl Shows for Conversions {
+    ghost use Rattle.tool_output.specs.declared.ending.Style.TheVariants as styles;
+    ghost use Rattle.tool_lines.specs.Lines.{converted};
+
+    ghost style = { styles.Records };
+
+    ghost piece = { λ s t read. converted s.to t read };
+
+    fn outcome(&self, alloc: Global, ty: &XType, outcome: &Outcome) -> Result<Text, OutOfMemory> {
+        match outcome {
+            Outcome::Sample(value) => value_record(alloc, self.to, ty, value),
+            Outcome::Discarded => record(alloc, Kind::Note, b"discarded"),
+            Outcome::MustUnderstand => record(alloc, Kind::Note, b"must-understand"),
+        }
+    }
+
+    fn malformed(
+        &self,
+        alloc: Global,
+        _ty: &XType,
+        at: u64,
+        why: Why,
+    ) -> Result<Text, OutOfMemory> {
+        let text = malformed_text(alloc, at, why)?;
+        record(alloc, Kind::Note, text.octets())
+    }
+}
+
+// The sample of a value, or a Note where it has too many octets.
+fn value_record(alloc: Global, to: Rep, ty: &XType, value: &Value) -> Result<Text, OutOfMemory>
+    ensures { IfOk result (λ text. text ≡ lines.converted to (tree ty.now) (Ok (sample (val value.now)))) }
+{
+    match size_of_sample(to, ty, value) {
+        None => record(alloc, Kind::Note, b"too-large"),
+        Some(_) => sample_record(alloc, to, ty, value),
+    }
+}

@@ -1,0 +1,49 @@
+-- How a run ends, as the program's status, and what was written then (this profile's own).
+use Rattle.std.specs.Prelude.{◌≡◌, ℕ, ◌⊎◌, List, Option}
+use Rattle.std.specs.Io.KnownBytes.{Appends}
+use Rattle.xt_io.specs.Outside.{AppendsPrefix}
+use Rattle.tool_output.specs.declared.ending.Cause.{Cause}
+use Rattle.tool_output.specs.declared.ending.Cause.TheVariants as causes
+use Rattle.tool_output.specs.declared.ending.Ending.{Ending}
+use Rattle.tool_output.specs.declared.ending.Ending.TheVariants as endings
+use Rattle.tool_output.specs.Outputs.{Output, text_of}
+use Rattle.tool_output.specs.Runs.{CutPieces, WrotePieces}
+use Rattle.xt_tool.specs.declared.status.Status.{Status}
+use Rattle.xt_tool.specs.declared.status.Status.TheVariants.{Done, No, Words, Bundle, ReadFault, WriteFault, OutOfMemory, Types, NoName, NetFault, Json, Fetch, Limit}
+
+abbrev pub status_of_cause : Cause → Status
+status_of_cause causes.No = No
+status_of_cause causes.Words = Words
+status_of_cause causes.Bundle = Bundle
+status_of_cause causes.Types = Types
+status_of_cause causes.NoName = NoName
+status_of_cause causes.NetFault = NetFault
+status_of_cause causes.Json = Json
+status_of_cause causes.Fetch = Fetch
+status_of_cause causes.Limit = Limit
+
+abbrev pub status_of : Ending → Status
+status_of endings.Done = Done
+status_of (endings.Refused cause) = status_of_cause cause
+
+-- The output was written whole, and the status is its.
+pub record Whole (output : Output) (status : Status) (old new : Option (List ℕ)) : Type 0 where
+  pub ended : status ≡ status_of output.ending
+  pub text : Appends old new (text_of output)
+
+-- What was written, by the status: the output whole, or a beginning of it. Where the source failed, whole pieces and then a last one that
+-- says so, or a beginning of these where the sink failed after it.
+abbrev pub Writes : Output → List ℕ → Status → (SourceRose : Type 0) → Option (List ℕ) → Option (List ℕ) → Type 0
+Writes output last ReadFault SourceRose old new = WrotePieces output last old new
+Writes output last WriteFault SourceRose old new = AppendsPrefix old new (text_of output) ⊎ (SourceRose × CutPieces output last old new)
+Writes output last OutOfMemory SourceRose old new = AppendsPrefix old new (text_of output)
+Writes output last Done SourceRose old new = Whole output Done old new
+Writes output last No SourceRose old new = Whole output No old new
+Writes output last Words SourceRose old new = Whole output Words old new
+Writes output last Bundle SourceRose old new = Whole output Bundle old new
+Writes output last Types SourceRose old new = Whole output Types old new
+Writes output last NoName SourceRose old new = Whole output NoName old new
+Writes output last NetFault SourceRose old new = Whole output NetFault old new
+Writes output last Json SourceRose old new = Whole output Json old new
+Writes output last Fetch SourceRose old new = Whole output Fetch old new
+Writes output last Limit SourceRose old new = Whole output Limit old new

@@ -1,0 +1,79 @@
+ghost use Rattle.std.specs.Prelude.{◌≡◌, Ok};
+ghost use Rattle.std.specs.Option.{option_map};
+ghost use Rattle.std.specs.Io.KnownBytes.{IsAtEnd};
+ghost use Rattle.tool_output.specs.Runs.{Ends, Halts, HaltsWriting, Writes};
+ghost use Rattle.tool_words.specs.View.{command_view};
+ghost use Rattle.xt_tool.specs.Output.{asked, bad_words, of_command};
+
+use std::alloc::Global;
+use tool_commands::{Converting, Judging, Reading, Writing, wrap};
+use tool_listing::{Compiling, Showing};
+use tool_output::{Cause, Ending, Halt, Refused, Style, last};
+use tool_runs::{answer_command, body_command};
+use tool_words::Command;
+use xt_io::{Sink, Source};
+use xt_lists::Text;
+use xt_shapes::Rep;
+
+// The last line of words that are no command.
+#[tactic(auto, using(crate::proofs::Tops::wanted))]
+fn refuse_words<K: Sink>(alloc: Global, output: &mut K) -> Result<Ending, Halt>
+    ensures ends { Ends bad_words result (K.taken output.old) (K.taken output.new) }
+    ensures not_done { result ≡ Ok Ending.Done → ⊥ }
+    ensures halts { HaltsWriting (K.faults output.old) (K.faults output.new) result }
+    ensures same { K.name output.new ≡ K.name output.old }
+{
+    let Ok(text) = Text::from_octets(alloc, b"words") else {
+        return Err(Halt::OutOfMemory);
+    };
+    let cause = Cause::Words;
+    last(alloc, Style::Lines, Refused { text, cause }, output)
+}
+
+fn run_command<S: Source, K: Sink>(
+    alloc: Global,
+    command: Command<'_>,
+    input: &mut S,
+    output: &mut K,
+) -> Result<Ending, Halt>
+    ensures output { Writes (option_map (of_command (command_view command.entry)) (S.left input.old)) result (K.taken output.old) (K.taken output.new) }
+    ensures ended { result ≡ Ok Ending.Done → IsAtEnd (S.left input.new) }
+    ensures halts { Halts (S.faults input.old) (S.faults input.new) (K.faults output.old) (K.faults output.new) result }
+    ensures same { K.name output.new ≡ K.name output.old }
+{
+    match command {
+        Command::Judge(pair) => answer_command(alloc, &Judging { pair }, input, output),
+        Command::Read(pair) => match pair.rep {
+            Rep::Xcdr2 => body_command(alloc, &Reading::new(pair), input, output),
+            Rep::Xcdr1 => refuse_words(alloc, output),
+        },
+        Command::Convert(pair, to) => match pair.rep {
+            Rep::Xcdr2 => body_command(alloc, &Converting::new(pair, to), input, output),
+            Rep::Xcdr1 => refuse_words(alloc, output),
+        },
+        Command::Write(reference, rep) => {
+            body_command(alloc, &Writing { reference, rep }, input, output)
+        }
+        Command::Compile => answer_command(alloc, &Compiling, input, output),
+        Command::Show => answer_command(alloc, &Showing, input, output),
+        Command::Wrap(kind) => wrap(alloc, kind, input, output),
+    }
+}
+
+/// Does what a command asks, up to a halt, of which nothing is written yet.
+pub fn run<S: Source, K: Sink>(
+    alloc: Global,
+    command: Option<Command<'_>>,
+    input: &mut S,
+    output: &mut K,
+) -> Result<Ending, Halt>
+    ensures output { Writes (option_map (asked (option_map command_view command.entry)) (S.left input.old)) result (K.taken output.old) (K.taken output.new) }
+    ensures ended { result ≡ Ok Ending.Done → IsAtEnd (S.left input.new) }
+    ensures halts { Halts (S.faults input.old) (S.faults input.new) (K.faults output.old) (K.faults output.new) result }
+    ensures same { K.name output.new ≡ K.name output.old }
+{
+    match command {
+        Some(command) => run_command(alloc, command, input, output),
+        None => refuse_words(alloc, output),
+    }
+}
