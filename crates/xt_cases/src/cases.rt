@@ -1,0 +1,184 @@
+//! A case: the words and the input of a run, and the output and the status that are wanted.
+
+use crate::trouble::Trouble;
+use std::alloc::Global;
+use xt_io::Kind;
+use xt_lists::{Row, Text, Word};
+
+/// The words and the input of a run, and what is wanted of it.
+#[derive(Debug, Drop)]
+pub struct Case {
+    pub name: String,
+    pub words: Row<Word>,
+    pub input: Text,
+    pub output: Text,
+    pub status: u8,
+}
+
+/// The parts of a case. What stands before its first line is a part too.
+#[derive(Clone, Copy, Debug, PartialEq, Eq)]
+enum Part {
+    Front,
+    Name,
+    Words,
+    Input,
+    Output,
+    Status,
+}
+
+/// The part that a line of this word is of. A word that isn't known is found out where its record is made.
+fn part_of(word: &str) -> Part {
+    match word {
+        "case" => Part::Name,
+        "words" => Part::Words,
+        "line" | "out" => Part::Output,
+        "status" => Part::Status,
+        _ => Part::Input,
+    }
+}
+
+/// Whether a line of the next part may stand behind one of the part before.
+fn may_follow(before: Part, next: Part) -> bool {
+    match next {
+        Part::Front => false,
+        Part::Name => before == Part::Front,
+        Part::Words => before == Part::Name,
+        Part::Input => matches!(before, Part::Words | Part::Input),
+        Part::Output | Part::Status => {
+            matches!(before, Part::Words | Part::Input | Part::Output)
+        }
+    }
+}
+
+impl Case {
+    fn new(alloc: Global) -> Case {
+        Case {
+            name: String::new(alloc),
+            words: Row::new(alloc),
+            input: Text::new(alloc),
+            output: Text::new(alloc),
+            status: 0,
+        }
+    }
+
+    /// The case of a run of lines, or None where they are comments alone.
+    pub fn parse(alloc: Global, block: &str) -> Result<Option<Case>, Trouble> {
+        let mut case = Case::new(alloc);
+        let mut part = Part::Front;
+        for line in block.lines() {
+            if line.is_empty() || line.starts_with("#") {
+                continue;
+            }
+            part = match case.take(alloc, part, line)? {
+                Some(next) => next,
+                None => return Err(Trouble::Line(String::from_str(alloc, line)?)),
+            };
+        }
+        match part {
+            Part::Front => Ok(None),
+            Part::Status => Ok(Some(case)),
+            _ => Err(Trouble::Unfinished(case.name)),
+        }
+    }
+
+    /// Takes a line that comes behind this part, and tells which part it is of. None where it is no line that may stand there.
+    fn take(&mut self, alloc: Global, before: Part, line: &str) -> Result<Option<Part>, Trouble> {
+        let (word, text) = line.split_once(' ').unwrap_or((line, ""));
+        let part = part_of(word);
+        if !may_follow(before, part) {
+            return Ok(None);
+        }
+        let taken = match part {
+            Part::Front => false,
+            Part::Name => self.take_name(alloc, text)?,
+            Part::Words => self.take_words(alloc, text)?,
+            Part::Input => append(alloc, &mut self.input, word, text)?,
+            Part::Output => self.take_output(alloc, word, text)?,
+            Part::Status => self.take_status(text),
+        };
+        Ok(if taken { Some(part) } else { None })
+    }
+
+    fn take_name(&mut self, alloc: Global, text: &str) -> Result<bool, Trouble> {
+        self.name = String::from_str(alloc, text)?;
+        Ok(!text.is_empty())
+    }
+
+    fn take_words(&mut self, alloc: Global, text: &str) -> Result<bool, Trouble> {
+        for word in text.split_whitespace() {
+            self.words.push(Word::from_octets(alloc, word.as_bytes())?)?;
+        }
+        Ok(true)
+    }
+
+    fn take_output(&mut self, alloc: Global, word: &str, text: &str) -> Result<bool, Trouble> {
+        if word == "line" {
+            self.output.append(text.as_bytes())?;
+            self.output.push(b'\n')?;
+            return Ok(true);
+        }
+        let (word, text) = text.split_once(' ').unwrap_or((text, ""));
+        append(alloc, &mut self.output, word, text)
+    }
+
+    fn take_status(&mut self, text: &str) -> bool {
+        match text.parse::<u8>() {
+            Ok(status) => {
+                self.status = status;
+                true
+            }
+            Err(_) => false,
+        }
+    }
+}
+
+/// The kind of a record whose payload is given as a text.
+fn kind_of_text(word: &str) -> Option<Kind> {
+    match word {
+        "idl" => Some(Kind::Idl),
+        "json" => Some(Kind::Json),
+        "note" => Some(Kind::Note),
+        _ => None,
+    }
+}
+
+/// The kind of a record whose payload is given in hexadecimal.
+fn kind_of_hex(word: &str) -> Option<Kind> {
+    match word {
+        "idl-hex" => Some(Kind::Idl),
+        "json-hex" => Some(Kind::Json),
+        "note-hex" => Some(Kind::Note),
+        "sample" => Some(Kind::Sample),
+        "object" => Some(Kind::Object),
+        _ => None,
+    }
+}
+
+/// Appends the record that a word and a text stand for, or octets alone. False where they stand for none.
+fn append(alloc: Global, into: &mut Text, word: &str, text: &str) -> Result<bool, Trouble> {
+    if let Some(kind) = kind_of_text(word) {
+        return append_record(into, kind, text.as_bytes());
+    }
+    let Ok(octets) = hex::decode(alloc, text) else {
+        return Ok(false);
+    };
+    match kind_of_hex(word) {
+        Some(kind) => append_record(into, kind, octets.as_slice()),
+        None if word == "raw" => {
+            into.append(octets.as_slice())?;
+            Ok(true)
+        }
+        None => Ok(false),
+    }
+}
+
+/// Appends a record: its kind, its length and its payload. False where its length has no 32 bits.
+fn append_record(into: &mut Text, kind: Kind, payload: &[u8]) -> Result<bool, Trouble> {
+    let Ok(length) = u32::try_from(payload.len()) else {
+        return Ok(false);
+    };
+    into.push(kind.octet())?;
+    into.append(&length.to_be_bytes())?;
+    into.append(payload)?;
+    Ok(true)
+}

@@ -1,0 +1,39 @@
+//! Why the cases can't be run to their end.
+use std::alloc::AllocError;
+use std::io;
+use thiserror::Error;
+use xt_lists::OutOfMemory;
+
+/// What ends the program before the last case.
+#[derive(Debug, Drop, Error)]
+pub enum Trouble {
+    /// The line is none of a case, or may not stand where it stands.
+    #[error("no line of a case, or out of its place: {0}")]
+    Line(String),
+    /// The case of this name has no status.
+    #[error("no status: {0}")]
+    Unfinished(String),
+    /// The input or the output failed.
+    #[error("{0}")]
+    Io(io::Error),
+    #[error("out of memory")]
+    OutOfMemory,
+}
+
+impl From<OutOfMemory> for Trouble {
+    fn from(_: OutOfMemory) -> Trouble {
+        Trouble::OutOfMemory
+    }
+}
+
+impl From<AllocError> for Trouble {
+    fn from(_: AllocError) -> Trouble {
+        Trouble::OutOfMemory
+    }
+}
+
+impl From<io::Error> for Trouble {
+    fn from(error: io::Error) -> Trouble {
+        Trouble::Io(error)
+    }
+}
