@@ -12,8 +12,8 @@ use std::alloc::Global;
 use type_trees::XType;
 use wire_cursor::{Cursor, DecodeFault, SliceCursor};
 use wire_streams::StreamCursor;
-use xcdr_two_reader::decode2;
-use xcdr_two_samples::read_sample2;
+use xcdr_reader::decode2;
+use xcdr_samples::read_sample2;
 use xt_io::{BundleReader, Kind, MemSink, MemSource, write_record};
 use xt_shapes::{Order, Rep};
 

@@ -3,7 +3,7 @@ use Rattle.std.specs.Prelude.{◌≡◌, ℕ}
 use Rattle.std.specs.BTreeMap.{get}
 use Rattle.std.specs.Ordering.{nat_cmp}
 use Rattle.xt_shapes.specs.Shape.{Members}
-use Rattle.xcdr_two_steps.specs.Indices.{index_of}
+use Rattle.reading_steps.specs.Indices.{index_of}
 use Rattle.member_index.specs.declared.index.MemberIndex.{MemberIndex}
 
 -- each id has the index of the first member with it, and no other id has one

@@ -1,6 +1,6 @@
 ghost use Rattle.std.specs.Prelude.{◌≡◌, IfOk};
 ghost use Rattle.type_trees.specs.Bridge.{members_shape};
-ghost use Rattle.xcdr_two_steps.specs.Indices.{index_of};
+ghost use Rattle.reading_steps.specs.Indices.{index_of};
 ghost use Rattle.member_index.specs.Indexed.{IsIndexOf};
 ghost use Rattle.xt_shapes.specs.Shape.{Members};
 

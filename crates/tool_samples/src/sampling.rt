@@ -16,7 +16,7 @@ use tool_output::{Halt, Stop, stop_for};
 use type_trees::XType;
 use wire_cursor::DecodeFault;
 use wire_streams::StreamCursor;
-use xcdr_two_samples::read_sample2;
+use xcdr_samples::read_sample2;
 use xt_io::{BundleReader, Head, Source};
 use xt_lists::Text;
 

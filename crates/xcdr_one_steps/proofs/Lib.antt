@@ -1,1 +1,3 @@
 pub mod MarkSteps
+pub mod ContentSteps
+pub mod ParameterSteps

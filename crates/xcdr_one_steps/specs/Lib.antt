@@ -1,2 +1,4 @@
 pub mod Marks
 pub mod Own
+pub mod Parameters
+pub mod Contents

@@ -1,37 +1,21 @@
 // The headers of optional members (DDS-XTypes 1.3, 7.4.1).
 ghost use Rattle.std.specs.Prelude.{◌≡◌, ◌≤◌, IfOk};
-ghost use Rattle.xcdr_model.specs.Xcdr1Reading as spec;
 ghost use Rattle.wire_cursor.specs.Standing.{room};
 ghost use Rattle.wire_cursor.specs.Decoding.{Decodes};
 ghost use Rattle.wire_cursor.specs.declared.faults.DecodeFault.TheVariants.{Malformed};
 ghost use Rattle.xcdr_one_steps.specs.Marks.{mark_view, marked_view};
 ghost use Rattle.xcdr_one_steps.specs.Own.{named, own_checked, own_length};
 
+use crate::kinds::{is_end, is_ignored, is_no_id};
 use crate::marks::{Mark, Marked, read_mark};
 use wire_cursor::{Cursor, DecodeFault};
 use xcdr_model::Why;
-
-const LIST_END: u32 = 0x3F02;
-
-const IGNORED: u32 = 0x3F03;
 
 // Whether the header is that of the member with this id: the list's end and an ignored parameter never are.
 fn is_named(mark: Mark, id: u32) -> bool
     ensures { result ≡ named (mark_view mark) id }
 {
-    let reserved = !mark.extended && (mark.id == LIST_END || mark.id == IGNORED);
-    mark.id == id && !reserved
-}
-
-// Whether no member has the header's id.
-fn is_no_id(mark: Mark) -> bool
-    ensures { result ≡ spec.is_no_id (mark_view mark) }
-{
-    if mark.extended {
-        mark.id == 0x0FFF_FFFF
-    } else {
-        mark.id > 0x3F00
-    }
+    mark.id == id && !(is_end(mark) || is_ignored(mark))
 }
 
 fn malformed(at: u64, why: Why) -> Result<u64, DecodeFault>

@@ -2,6 +2,6 @@
 //! samples. The crate gathers what the crates below it have; their own pages say how each is defined and proved.
 #![tactic(auto)]
 
-pub use xcdr_two_reader::decode2;
-pub use xcdr_two_samples::read_sample2;
+pub use xcdr_reader::decode2;
+pub use xcdr_samples::read_sample2;
 pub use xcdr_two_writer::{encode_value, encode2, size2, write_sample2};

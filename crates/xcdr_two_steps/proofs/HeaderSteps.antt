@@ -20,8 +20,9 @@ use Rattle.wire_cursor.specs.Decoding.{Decodes, spot, after}
 use Rattle.wire_cursor.specs.Steps.{placed_at}
 use Rattle.wire_cursor.specs.Placing.{placed_view}
 use Rattle.wire_cursor.proofs.Ahead.{Ahead, begins, placed_bind, room_is, read_fault, malformed, rephrased}
-use Rattle.xcdr_two_steps.specs.declared.headers.Header.{Header}
-use Rattle.xcdr_two_steps.specs.Headers.{Told, header_view, counted_content, peeked_at, length_at, checked_header, header_at, next_at}
+use Rattle.reading_steps.specs.declared.headings.Header.{Header}
+use Rattle.reading_steps.specs.Headings.{Told, header_view, ended, told}
+use Rattle.xcdr_two_steps.specs.Headers.{counted_content, peeked_at, length_at, checked_header, header_at, next_at}
 
 bind_bind : {A B C : Type 0} (r : Reading A) (f : A × Spot → Reading B) (h : B × Spot → Reading C) → ((r >>= f) >>= h) ≡ (r >>= λ x. f x >>= h)
 unfolding ◌>>=◌
@@ -173,11 +174,11 @@ moved_on k {a} {b} u p = record {
       (same_ahead a b xs p e, same ∙ ap (λ (j : ℕ). k a.order (spot a (drop j xs))) none ∙ ap (k a.order) (sym (same_spot a b xs p)));
 }
 
-pub next_none : {a b : Standing} → Stands a → Stayed a b → true ≡ nat_le (room a) (padding 4 (a.place - a.origin)) → Ahead next_at (λ o s. Ok (None, s)) a b
-next_none {a} {b} st p is = moved_on (λ o s. Ok (None, s)) (rephrased next_at (λ o s. Ok (None, s)) (begins next_at next_at a (λ s. refl)) (λ xs e. rw (ends_is a xs st e, ← is) refl)) p
+pub next_none : {a b : Standing} → Stands a → Stayed a b → true ≡ nat_le (room a) (padding 4 (a.place - a.origin)) → Ahead next_at (λ o s. Ok (ended, s)) a b
+next_none {a} {b} st p is = moved_on (λ o s. Ok (ended, s)) (rephrased next_at (λ o s. Ok (ended, s)) (begins next_at next_at a (λ s. refl)) (λ xs e. rw (ends_is a xs st e, ← is) refl)) p
 
-pub next_some : {a b : Standing} → Stands a → Stayed a b → false ≡ nat_le (room a) (padding 4 (a.place - a.origin)) → Ahead next_at (λ o s. header_at o s >>= λ h. Ok (Some h.0, h.1)) a b
-next_some {a} {b} st p is = moved_on (λ o s. header_at o s >>= λ h. Ok (Some h.0, h.1)) (rephrased next_at (λ o s. header_at o s >>= λ h. Ok (Some h.0, h.1)) (begins next_at next_at a (λ s. refl)) (λ xs e. rw (ends_is a xs st e, ← is) refl)) p
+pub next_some : {a b : Standing} → Stands a → Stayed a b → false ≡ nat_le (room a) (padding 4 (a.place - a.origin)) → Ahead next_at (λ o s. header_at o s >>= λ h. Ok (told h.0, h.1)) a b
+next_some {a} {b} st p is = moved_on (λ o s. header_at o s >>= λ h. Ok (told h.0, h.1)) (rephrased next_at (λ o s. header_at o s >>= λ h. Ok (told h.0, h.1)) (begins next_at next_at a (λ s. refl)) (λ xs e. rw (ends_is a xs st e, ← is) refl)) p
 
 pub peek_err : {a b : Standing} (f : CutFault) → Stands a → Stands b → Peeks a b (Err f) → Decodes {T = ℕ} (λ n. n) peeked_at a b (Err (cut_fault f))
 peek_err (cut.Short said) st st2 p = peek_short said st p

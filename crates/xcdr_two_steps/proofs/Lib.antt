@@ -1,3 +1,1 @@
-pub mod ByIndex
 pub mod HeaderSteps
-pub mod StepSteps

@@ -1,26 +1,11 @@
 -- The headers of a mutable structure's members, one at a time (DDS-XTypes 1.3, 7.4.3.4).
-use Rattle.std.specs.Prelude.{ℕ, ◌+◌, ◌-◌, ◌*◌, ◌/◌, ◌%◌, ◌^◌, Bool, cond, nat_lt, ◌==◌, Option, Some, None, Ok, length, take}
+use Rattle.std.specs.Prelude.{ℕ, ◌+◌, ◌-◌, ◌*◌, ◌/◌, ◌%◌, ◌^◌, cond, nat_lt, ◌==◌, Ok, length, take}
 use Rattle.xt_shapes.specs.declared.leaves.Order.{Order}
 use Rattle.xcdr_model.specs.declared.malformed.Why.TheVariants.{Short, MemberId, MemberSize}
 use Rattle.xcdr_model.specs.Numbers.{number}
 use Rattle.xcdr_model.specs.Reading.{Spot, Reading, fault_at, ◌>>=◌, number_at}
 use Rattle.xcdr_model.specs.Xcdr2Reading.{content_at, ends, holder}
-use Rattle.wire_cursor.specs.Standing.{Standing}
-use Rattle.xcdr_two_steps.specs.declared.headers.Header.{Header}
-
--- a header: its place, the id, whether it is marked, and the length of its content
-pub record Told : Type 0 where
-  pub at : ℕ
-  pub id : ℕ
-  pub must : Bool
-  pub size : ℕ
-
-abbrev pub header_view : Standing → Header → Told
-header_view a h = record { at = h.at - a.origin; id = h.id; must = h.must; size = h.length }
-
-abbrev pub maybe_header : Standing → Option Header → Option Told
-maybe_header a None = None
-maybe_header a (Some h) = Some (header_view a h)
+use Rattle.reading_steps.specs.Headings.{Told, Next, ended, told}
 
 -- how many octets a content has whose first number is its count, under the length codes 5 to 7
 abbrev pub counted_content : ℕ → ℕ → ℕ
@@ -44,6 +29,6 @@ checked_header v size o s = cond (v.1 % 2 ^ 28 == 2 ^ 28 - 1) (fault_at v.0 Memb
 abbrev pub header_at : Order → Spot → Reading Told
 header_at o s = number_at 4 o 4 s >>= λ h. content_at o (h.0 / 2 ^ 28 % 8) h.1 >>= λ n. checked_header (holder 4 4 s, h.0) n.0 o n.1
 
--- the next header, or none where the region ends before it
-abbrev pub next_at : Order → Spot → Reading (Option Told)
-next_at o s = cond (ends s) (Ok (None, s)) (header_at o s >>= λ h. Ok (Some h.0, h.1))
+-- what comes next: a header, or the end where the region ends before it
+abbrev pub next_at : Order → Spot → Reading Next
+next_at o s = cond (ends s) (Ok (ended, s)) (header_at o s >>= λ h. Ok (told h.0, h.1))

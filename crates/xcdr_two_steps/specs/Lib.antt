@@ -1,4 +1,2 @@
 pub mod Bounds
 pub mod Headers
-pub mod Indices
-pub mod Cases

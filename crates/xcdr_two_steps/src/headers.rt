@@ -1,25 +1,18 @@
 // The headers of a mutable structure's members (DDS-XTypes 1.3, 7.4.3.4: EMHEADER, its length code and NEXTINT).
-ghost use Rattle.std.specs.Prelude.{◌≡◌, ◌≤◌, ◌<◌, ◌^◌, IfOk, IfSome, nat_le};
+ghost use Rattle.std.specs.Prelude.{◌≡◌, ◌≤◌, ◌<◌, ◌^◌, IfOk, nat_le};
 ghost use Rattle.wire_cursor.specs.Decoding.{Decodes};
 ghost use Rattle.wire_cursor.specs.Standing.{Stayed, room, pad_of};
 ghost use Rattle.wire_cursor.specs.Placing.{placed_view};
-ghost use Rattle.xcdr_two_steps.specs.Headers.{header_view, maybe_header, length_at, checked_header, header_at, next_at, peeked_at, counted_content};
+ghost use Rattle.reading_steps.specs.Headings.{header_view, next_view, IsHeld};
+ghost use Rattle.xcdr_two_steps.specs.Headers.{length_at, checked_header, header_at, next_at, peeked_at, counted_content};
 
+use reading_steps::{Header, Heading};
 use wire_cursor::{Cursor, DecodeFault, Placed, cut, read_number, read_placed};
 use wire_numbers::{number, padding};
 use xcdr_model::Why;
 
 // Ids are below this number, which the header's mark and length code stand above.
 const ID_LIMIT: u64 = 0x1000_0000;
-
-/// A member's header: its place, the member's id, its must_understand mark, and how many octets the content has.
-#[derive(Clone, Copy, Debug)]
-pub struct Header {
-    pub at: u64,
-    pub id: u32,
-    pub must: bool,
-    pub length: u64,
-}
 
 // Reads the next four octets as a number, before which the cursor stays: they are the content's first.
 fn read_ahead<C: Cursor>(cursor: &mut C) -> Result<u64, DecodeFault>
@@ -123,16 +116,15 @@ fn has_padding_alone<C: Cursor>(cursor: &mut C) -> bool
     cursor.region_end() - place <= padding(4, place - origin)
 }
 
-/// Reads the next member's header, or none where the region ends before it. MemberId comes where no member can have the id,
+/// Reads what comes next: a member's header, or the end where the region ends before one. MemberId comes where no member can have the id,
 /// MemberSize where the content passes the region.
-pub fn next_header<C: Cursor>(cursor: &mut C) -> Result<Option<Header>, DecodeFault>
-    ensures room { IfOk result (λ found. IfSome found (λ h. h.length ≤ room (C.state cursor.new))) }
-    ensures at { IfOk result (λ found. IfSome found (λ h. (C.state cursor.new).origin ≤ h.at)) }
-    ensures value { Decodes (maybe_header (C.state cursor.old)) next_at (C.state cursor.old) (C.state cursor.new) result }
+pub fn next_header<C: Cursor>(cursor: &mut C) -> Result<Heading, DecodeFault>
+    ensures held { IfOk result (IsHeld (C.state cursor.new)) }
+    ensures value { Decodes (next_view (C.state cursor.old)) next_at (C.state cursor.old) (C.state cursor.new) result }
 {
     if has_padding_alone(cursor) {
-        return Ok(None);
+        return Ok(Heading::End);
     }
     let header = read_header(cursor)?;
-    Ok(Some(header))
+    Ok(Heading::Member(header))
 }

@@ -3,7 +3,8 @@ use Rattle.std.proofs.lemmas.Result.{err_from_is_err_and}
 use Rattle.wire_cursor.specs.Steps.{placed_at}
 use Rattle.wire_cursor.specs.Placing.{placed_view}
 use Rattle.wire_cursor.proofs.Ahead.{goes_on, fails, last}
-use Rattle.xcdr_two_steps.specs.Headers.{header_view, length_at, checked_header}
+use Rattle.reading_steps.specs.Headings.{header_view}
+use Rattle.xcdr_two_steps.specs.Headers.{length_at, checked_header}
 use Rattle.xcdr_two_steps.proofs.HeaderSteps.{behind_word, header_starts, same_origin}
 use Rattle.xcdr_two_steps.proofs.headers.read_header.Goals as goal
 

@@ -2,8 +2,8 @@ use Rattle.std.proofs.Common.{◌≡◌, ℕ, ◌≤◌, length, drop}
 use Rattle.std.specs.BTreeMap.{get}
 use Rattle.std.specs.Ordering.{nat_cmp}
 use Rattle.type_trees.specs.Bridge.{members_shape}
-use Rattle.xcdr_two_steps.specs.Indices.{index_of}
-use Rattle.xcdr_two_steps.proofs.ByIndex.{shifted}
+use Rattle.reading_steps.specs.Indices.{index_of}
+use Rattle.reading_steps.proofs.ByIndex.{shifted}
 use Rattle.member_index.proofs.index.MemberIndex.new.Given as goal
 
 -- the members from there on are held

@@ -1,0 +1,4 @@
+pub mod Cases
+pub mod Indices
+pub mod Counts
+pub mod Headings

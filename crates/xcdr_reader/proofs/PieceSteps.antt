@@ -1,0 +1,176 @@
+-- Pieces, as the program keeps them.
+use Rattle.std.proofs.Common.{◌≡◌, refl, sym, ap, ap₂, ◌∙◌, subst, ℕ, zero, suc, ◌+◌, ◌-◌, ◌<◌, ◌≤◌, Bool, true, false, ◌||◌, List, [], ◌∷◌, ◌++◌, length, replicate, Option, Some, None, Ok, is_some, arith, slice_get, get_or, take, nat_lt}
+use Rattle.xt_shapes.specs.declared.leaves.Order.{Order}
+use Rattle.xt_shapes.specs.Shape.{Head, Shape, Members, no_members, member}
+use Rattle.xt_shapes.specs.Vals.{Slot as Body}
+use Rattle.type_trees.specs.declared.types.Member as declared
+use Rattle.type_trees.specs.Bridge.{type_shape, members_shape, member_head}
+use Rattle.xcdr_model.specs.Premises.{distinct_members}
+use Rattle.xcdr_model.specs.Projection.{Built, Part, built_at, any_unseen, slot_from, whole_structure}
+use Rattle.std.proofs.lemmas.Bool.{le-ltb}
+use Rattle.xcdr_model.specs.declared.malformed.Why.TheVariants.{Twice}
+use Rattle.xcdr_model.specs.Reading.{Spot, Reading, fault_at, ◌>>=◌, filling}
+use Rattle.wire_cursor.specs.Steps.{pass_at}
+use Rattle.xcdr_two_steps.specs.declared.headers.Header.{Header}
+use Rattle.xcdr_model.specs.Xcdr2Reading.{read, read_named}
+use Rattle.settled_parts.specs.Members.{by_member, so_far, have_come, and_slot_at, filled_of, at_index}
+use Rattle.settled_parts.proofs.StructureSteps.{comes, none_came, filled_whole, member_count}
+use Rattle.settled_parts.proofs.GatherSteps.{or_false}
+use Rattle.wire_cursor.specs.Standing.{Standing, Stands, room}
+use Rattle.wire_cursor.specs.Decoding.{Decodes, spot}
+use Rattle.wire_cursor.proofs.Ahead.{Ahead, begins, goes_on, rephrased, room_is}
+use Rattle.xcdr_two_steps.specs.Headers.{Told, header_view, maybe_header, next_at}
+use Rattle.xcdr_two_steps.specs.Indices.{index_of}
+use Rattle.xcdr_reader.specs.declared.known.Known.{Known}
+use Rattle.xcdr_reader.specs.Members.{Pieces, piece_read, if_header, pieces_then, mutable_read, Holds, IsIndexed, flag_at, has_come}
+use Rattle.xcdr_reader.proofs.Indexed.{found, not_found, indexed}
+
+-- ---- the flags of what came
+
+come_count : (ms : Members) (ps : List (ℕ × Part)) → length (have_come ms ps) ≡ member_count ms
+come_count no_members ps = refl
+come_count (member h t ms) ps = ap (λ (n : ℕ). suc n) (come_count ms ps)
+
+count_is : (ms : List declared.Member) → member_count (members_shape ms) ≡ length ms
+count_is [] = refl
+count_is (m ∷ ms) = ap (λ (n : ℕ). suc n) (count_is ms)
+
+pub held_count : (ms : List declared.Member) (k : Known) (ps : Pieces) → Holds (members_shape ms) k ps → length (by_member k.slots).1 ≡ length ms
+held_count ms k ps h = ap (λ (y : Option (List (Option Body)) × List Bool × Bool). length y.1) h.slots ∙ come_count (members_shape ms) ps.0 ∙ count_is ms
+
+pub held_index : (ms : List declared.Member) (k : Known) (ps : Pieces) → Holds (members_shape ms) k ps → IsIndexed (members_shape ms) k
+held_index ms k ps h = h.indexed
+
+flag_of : (ms : Members) (ps : List (ℕ × Part)) (i : ℕ) (h : Head) (t : Shape) → at_index ms i ≡ Some (h, t) → slice_get (have_come ms ps) i ≡ Some (is_some (built_at ps h.id))
+flag_of no_members ps i h t is = absurd cc
+flag_of (member k s ms) ps zero h t is = (let p : (k, s) ≡ (h, t) = cc in ap (λ (y : Head × Shape). Some (is_some (built_at ps y.0.id))) p)
+flag_of (member k s ms) ps (suc i) h t is = flag_of ms ps i h t is
+
+flag_some : (flags : List Bool) (i : ℕ) (b : Bool) → slice_get flags i ≡ Some b → flag_at flags (Some i) ≡ b
+flag_some flags i b e = ap (λ (o : Option Bool). elim o as (λ x. Bool) [ None ↦ false | Some c ↦ c ]) e
+
+-- the flag of a member that was found tells whether it came
+pub came_is : (ms : Members) (k : Known) (ps : Pieces) (id i : ℕ) → Holds ms k ps → index_of ms id ≡ Some i → has_come ms k id ≡ is_some (built_at ps.0 id)
+came_is ms k ps id i h is =
+    let f = found ms i id is in
+    let flags : (by_member k.slots).1 ≡ have_come ms ps.0 = ap (λ (y : Option (List (Option Body)) × List Bool × Bool). y.1) h.slots in
+    ap₂ flag_at flags is ∙ flag_some (have_come ms ps.0) i (is_some (built_at ps.0 f.0.id)) (flag_of ms ps.0 i f.0 f.1 f.2) ∙ ap (λ (n : ℕ). is_some (built_at ps.0 n)) f.3
+
+same_piece : (ms : Members) (k : Known) (ps : Pieces) (id : ℕ) (h : Told) (o : Order) (s : Spot) (x : Option ℕ) → Holds ms k ps → index_of ms id ≡ x → piece_read (read_named o ms id) (is_some (built_at ps.0 id)) h s ≡ piece_read (read_named o ms id) (has_come ms k id) h s
+same_piece ms k ps id h o s None held is = rw (not_found ms id o is) refl
+same_piece ms k ps id h o s (Some i) held is = ap (λ b. piece_read (read_named o ms id) b h s) (sym (came_is ms k ps id i held is))
+
+-- ---- one after another
+
+abbrev pub pieces_from : Members → ℕ → ℕ → Pieces → Order → Spot → Reading Part
+pieces_from ms n i ps = pieces_then ms (n - i) ps
+
+abbrev pub piece_then : Members → ℕ → ℕ → Pieces → Pieces → Order → Spot → Reading Part
+piece_then ms n i ps x = pieces_from ms n (i + 1) (ps.0 ++ x.0, ps.1 || x.1)
+
+abbrev pub header_then : Members → ℕ → ℕ → Pieces → Option Told → Order → Spot → Reading Part
+header_then ms n i ps h o s = if_header h (Ok (whole_structure ms ps.0 ps.1, s)) (λ k. piece_read (read_named o ms k.id) (is_some (built_at ps.0 k.id)) k s >>= λ x. piece_then ms n i ps x.0 o x.1)
+
+pub pieces_begin : (ms : Members) (n : ℕ) (a : Standing) → Stands a → n ≡ room a → Ahead (mutable_read ms) (pieces_from ms n 0 ([], false)) a a
+pieces_begin ms n a st e = rephrased (mutable_read ms) (pieces_from ms n 0 ([], false)) (begins (mutable_read ms) (mutable_read ms) a (λ s. refl))
+    (λ xs is. ap (λ (k : ℕ). pieces_then ms k ([], false) a.order (spot a xs)) (room_is xs st is ∙ omega (arith, e)))
+
+pub piece_next : (ms : Members) (n i : ℕ) (ps : Pieces) {f : Order → Spot → Reading Part} {a b : Standing} → i < n → Ahead f (pieces_from ms n i ps) a b → Ahead f (λ o s. next_at o s >>= λ h. header_then ms n i ps h.0 o h.1) a b
+unfolding pieces_then
+piece_next ms n i ps {b = b} lt u =
+    let next : n - i ≡ suc (n - (i + 1)) = omega arith in
+    rephrased (pieces_from ms n i ps) (λ o s. next_at o s >>= λ h. header_then ms n i ps h.0 o h.1) u (λ xs is. ap (λ (k : ℕ). pieces_then ms k ps b.order (spot b xs)) next)
+
+pub piece_none : (ms : Members) (n i : ℕ) (ps : Pieces) {f : Order → Spot → Reading Part} {a b : Standing} → n ≤ i → Ahead f (pieces_from ms n i ps) a b → Ahead f (λ o s. Ok (whole_structure ms ps.0 ps.1, s)) a b
+unfolding pieces_then
+piece_none ms n i ps {b = b} le u =
+    let none : n - i ≡ 0 = omega arith in
+    rephrased (pieces_from ms n i ps) (λ o s. Ok (whole_structure ms ps.0 ps.1, s)) u (λ xs is. ap (λ (k : ℕ). pieces_then ms k ps b.order (spot b xs)) none)
+
+-- the piece of a header, as the program tells whether its member came
+pub piece_comes : (ms : Members) (n i : ℕ) (ps : Pieces) (k : Known) (h : Told) {f : Order → Spot → Reading Part} {a b : Standing} → Holds ms k ps → Ahead f (header_then ms n i ps (Some h)) a b
+    → Ahead f (λ o s. piece_read (read_named o ms h.id) (has_come ms k h.id) h s >>= λ x. piece_then ms n i ps x.0 o x.1) a b
+piece_comes ms n i ps k h {b = b} held u =
+    rephrased (header_then ms n i ps (Some h)) (λ o s. piece_read (read_named o ms h.id) (has_come ms k h.id) h s >>= λ x. piece_then ms n i ps x.0 o x.1) u
+    (λ xs is. ap (λ r. r >>= λ x. piece_then ms n i ps x.0 b.order x.1) (same_piece ms k ps h.id h b.order (spot b xs) (index_of ms h.id) held refl))
+
+-- ---- what is kept
+
+none_of : (o : Option Built) → is_some o ≡ false → o ≡ None
+none_of None e = refl
+none_of (Some x) e = absurd cc
+
+some_same : (x y : Head × Shape) → Some x ≡ Some y → x ≡ y
+some_same x y e = cc
+
+-- what came of a member is settled into its slot
+pub kept_slots : (ms : Members) (k : Known) (ps : Pieces) (at id : ℕ) (x : Part) (d : Head) (t : Shape) → distinct_members ms ≡ true → Holds ms k ps → index_of ms id ≡ Some at → has_come ms k id ≡ false → at_index ms at ≡ Some (d, t)
+    → and_slot_at (by_member k.slots) at (slot_from d t (Some x.0), x.1) ≡ so_far ms (ps.0 ++ (id, x) ∷ [])
+kept_slots ms k ps at id x d t apart h is new there =
+    let f = found ms at id is in
+    let same : (f.0, f.1) ≡ (d, t) = some_same (f.0, f.1) (d, t) (sym f.2 ∙ there) in
+    let dh : d.id ≡ id = ap (λ (y : Head × Shape). y.0.id) (sym same) ∙ f.3 in
+    let none : built_at ps.0 d.id ≡ None = none_of (built_at ps.0 d.id) (ap (λ (n : ℕ). is_some (built_at ps.0 n)) dh ∙ sym (came_is ms k ps id at h is) ∙ new) in
+    let r = comes ms ps.0 at d t x apart there none in
+    ap (λ y. and_slot_at y at (slot_from d t (Some x.0), x.1)) h.slots ∙ sym r ∙ ap (λ (n : ℕ). so_far ms (ps.0 ++ (n, x) ∷ [])) dh
+
+pub kept_whole : (ms : Members) (k : Known) (ps : Pieces) → Holds ms k ps → ((filled_of ms (by_member k.slots)).0, (filled_of ms (by_member k.slots)).1 || k.unseen) ≡ whole_structure ms ps.0 ps.1
+kept_whole ms k ps h =
+    ap₂ (λ (y : Part) (u : Bool). (y.0, y.1 || u)) (ap (filled_of ms) h.slots ∙ filled_whole ms ps.0) h.unseen
+    ∙ ap (λ (b : Bool). ((whole_structure ms ps.0 ps.1).0, b || ps.1)) (or_false (any_unseen ps.0))
+
+pub none_held : (ms : List declared.Member) (k : Known) → by_member k.slots ≡ (Some (replicate (length ms) None), replicate (length ms) false, false) → k.unseen ≡ false → IsIndexed (members_shape ms) k → Holds (members_shape ms) k ([], false)
+none_held ms k e u i = record { slots = e ∙ ap (λ (n : ℕ). (Some (replicate n None), replicate n false, false)) (sym (count_is ms)) ∙ sym (none_came (members_shape ms)); unseen = u; indexed = i }
+
+-- ---- a piece
+
+abbrev pub piece_at : Members → Known → Header → Standing → Order → Spot → Reading Pieces
+piece_at ms k h a o s = piece_read (read_named o ms h.id) (has_come ms k h.id) (header_view a h) s
+
+came_index : (ms : Members) (k : Known) (id : ℕ) (x : Option ℕ) → index_of ms id ≡ x → flag_at (by_member k.slots).1 x ≡ true → (i : ℕ) × (index_of ms id ≡ Some i)
+came_index ms k id None is e = absurd cc
+came_index ms k id (Some i) is e = (i, is)
+
+pub piece_twice : (ms : Members) (k : Known) (h : Header) (a : Standing) → has_come ms k h.id ≡ true → Ahead (piece_at ms k h a) (λ o s. fault_at (h.at - a.origin) Twice) a a
+piece_twice ms k h a e =
+    let at = came_index ms k h.id (index_of ms h.id) refl e in
+    let f = found ms at.0 h.id at.1 in
+    begins (piece_at ms k h a) (λ o s. fault_at (h.at - a.origin) Twice) a (λ s. rw (f.4 a.order, e) refl)
+
+abbrev pub passed_piece : Bool → Unit {0} → Order → Spot → Reading Pieces
+passed_piece must u o s = Ok (([], must), s)
+
+pub piece_passed : (ms : Members) (k : Known) (h : Header) (a : Standing) → Stands a → h.length ≤ room a → index_of ms h.id ≡ None → Ahead (piece_at ms k h a) (λ o s. pass_at h.length o s >>= λ u. passed_piece h.must u.0 o u.1) a a
+unfolding ◌>>=◌
+piece_passed ms k h a st fits is = rephrased (piece_at ms k h a) (λ o s. pass_at h.length o s >>= λ u. passed_piece h.must u.0 o u.1) (begins (piece_at ms k h a) (piece_at ms k h a) a (λ s. refl))
+    (λ xs e. let long : nat_lt (length (take (room a) xs)) h.length ≡ false = le-ltb _ _ (omega (arith, room_is xs st e, fits)) in rw (not_found ms h.id a.order is, long) refl)
+
+abbrev pub kept_piece : ℕ → Part → Order → Spot → Reading Pieces
+kept_piece id y o s = Ok (((id, y) ∷ [], false), s)
+
+abbrev pub content_read : ℕ → Shape → Order → Spot → Reading Part
+content_read n t o s = filling n (λ s1. read o t s1) s
+
+pub piece_kept : (ms : List declared.Member) (k : Known) (h : Header) (a : Standing) (at : ℕ) (d : declared.Member) → index_of (members_shape ms) h.id ≡ Some at → has_come (members_shape ms) k h.id ≡ false → at < length ms
+    → Ahead (piece_at (members_shape ms) k h a) (λ o s. content_read h.length (type_shape (get_or ms at d).ty) o s >>= λ y. kept_piece h.id y.0 o y.1) a a
+piece_kept ms k h a at d is new within =
+    let f = found (members_shape ms) at h.id is in
+    let pair : (f.0, f.1) ≡ (member_head (get_or ms at d), type_shape (get_or ms at d).ty) = some_same (f.0, f.1) (member_head (get_or ms at d), type_shape (get_or ms at d).ty) (sym f.2 ∙ indexed ms at d within) in
+    let shape : f.1 ≡ type_shape (get_or ms at d).ty = ap (λ (y : Head × Shape). y.1) pair in
+    begins (piece_at (members_shape ms) k h a) _ a (λ s. rw (f.4 a.order, new, shape) refl)
+
+-- ---- a header that was read, and the piece behind it
+
+told_same : (a b : Standing) (h : Header) → b.origin ≡ a.origin → header_view a h ≡ header_view b h
+told_same a b h e = ap (λ (k : ℕ). record { at = h.at - k; id = h.id; must = h.must; size = h.length }) (sym e)
+
+pub header_read : (ms : Members) (n i : ℕ) (ps : Pieces) (k : Known) {f : Order → Spot → Reading Part} {a b c : Standing} (h : Header) → Holds ms k ps → Ahead f (λ o s. next_at o s >>= λ x. header_then ms n i ps x.0 o x.1) a b → Decodes (maybe_header b) next_at b c (Ok (Some h))
+    → Ahead f (λ o s. piece_at ms k h c o s >>= λ x. piece_then ms n i ps x.0 o x.1) a c
+header_read ms n i ps k {f} {a} {b} {c} h held u d =
+    let v = goes_on (maybe_header b) next_at (header_then ms n i ps) u d in
+    let w = subst (λ (y : Told). Ahead f (header_then ms n i ps (Some y)) a c) (told_same b c h d.within.origin) v in
+    piece_comes ms n i ps k (header_view c h) held w
+
+pub header_none : (ms : Members) (n i : ℕ) (ps : Pieces) {f : Order → Spot → Reading Part} {a b c : Standing} → Ahead f (λ o s. next_at o s >>= λ x. header_then ms n i ps x.0 o x.1) a b → Decodes {T = Option Header} (maybe_header b) next_at b c (Ok None)
+    → Ahead f (λ o s. Ok (whole_structure ms ps.0 ps.1, s)) a c
+header_none ms n i ps {b = b} u d = goes_on (maybe_header b) next_at (header_then ms n i ps) u d
