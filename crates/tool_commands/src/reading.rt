@@ -1,5 +1,4 @@
 ghost use Rattle.std.specs.Prelude.{◌≡◌, ◌≤◌, length};
-ghost use Rattle.xt_shapes.specs.declared.leaves.Rep.TheVariants.{Xcdr2};
 ghost use Rattle.tool_output.specs.Runs.{Comes};
 ghost use Rattle.tool_front.specs.Reading.{AreWithin};
 ghost use Rattle.tool_words.specs.View.{pair_view};
@@ -14,26 +13,15 @@ use tool_words::Pair;
 use xt_io::Item;
 use xt_shapes::Rep;
 
-/// A line for each sample in XCDR2, as the reader's type sees it.
+/// A line for each sample, as the reader's type sees it.
 #[derive(Clone, Copy)]
 pub struct Reading<'a> {
-    pair: Pair<'a>,
-    ghost second: { pair.rep ≡ Xcdr2 },
-}
-
-impl<'a> Reading<'a> {
-    pub fn new(pair: Pair<'a>) -> Reading<'a>
-        requires { pair.rep ≡ Xcdr2 }
-        ensures { result.pair ≡ pair.entry }
-    {
-        Reading { pair }
-    }
+    pub pair: Pair<'a>,
 }
 
 impl<'a> Prepares for Reading<'a> {
     ghost use Rattle.type_trees.specs.View.{tree};
     ghost use Rattle.xt_io.specs.declared.Kind.TheVariants.{Sample};
-    ghost use Rattle.xt_shapes.specs.declared.leaves.Rep.TheVariants as reps;
     ghost use Rattle.tool_output.specs.declared.ending.Style.TheVariants as styles;
     ghost use Rattle.tool_output.specs.Outputs.{finished, taking};
     ghost use Rattle.tool_output.proofs.Turning.{run_at_end};
@@ -56,35 +44,23 @@ impl<'a> Prepares for Reading<'a> {
     {
         match reader_type(alloc, &self.pair, records) {
             Err(stop) => Err(stop),
-            Ok(ty) => Ok(Samples::new(ty, Lines)),
+            Ok(ty) => Ok(Samples::new(self.pair.rep, ty, Lines)),
         }
     }
 
-    ghost ends = { λ run number. run_at_end styles.Lines (taking Sample (read_turn reps.Xcdr2 (tree run.ty))) (λ u. finished) tt number };
+    ghost ends = { λ run number. run_at_end styles.Lines (taking Sample (read_turn run.rep (tree run.ty))) (λ u. finished) tt number };
 }
 
-/// A sample of the reader's type for each sample in XCDR2, in another representation.
+/// A sample of the reader's type for each sample, in that or another representation.
 #[derive(Clone, Copy)]
 pub struct Converting<'a> {
-    pair: Pair<'a>,
-    to: Rep,
-    ghost second: { pair.rep ≡ Xcdr2 },
-}
-
-impl<'a> Converting<'a> {
-    pub fn new(pair: Pair<'a>, to: Rep) -> Converting<'a>
-        requires { pair.rep ≡ Xcdr2 }
-        ensures pair { result.pair ≡ pair.entry }
-        ensures to { result.to ≡ to }
-    {
-        Converting { pair, to }
-    }
+    pub pair: Pair<'a>,
+    pub to: Rep,
 }
 
 impl<'a> Prepares for Converting<'a> {
     ghost use Rattle.type_trees.specs.View.{tree};
     ghost use Rattle.xt_io.specs.declared.Kind.TheVariants.{Sample};
-    ghost use Rattle.xt_shapes.specs.declared.leaves.Rep.TheVariants as reps;
     ghost use Rattle.tool_output.specs.declared.ending.Style.TheVariants as styles;
     ghost use Rattle.tool_output.specs.Outputs.{finished, taking};
     ghost use Rattle.tool_output.proofs.Turning.{run_at_end};
@@ -107,9 +83,9 @@ impl<'a> Prepares for Converting<'a> {
     {
         match reader_type(alloc, &self.pair, records) {
             Err(stop) => Err(stop),
-            Ok(ty) => Ok(Samples::new(ty, Conversions { to: self.to })),
+            Ok(ty) => Ok(Samples::new(self.pair.rep, ty, Conversions { to: self.to })),
         }
     }
 
-    ghost ends = { λ run number. run_at_end styles.Records (taking Sample (convert_turn reps.Xcdr2 run.form.to (tree run.ty))) (λ u. finished) tt number };
+    ghost ends = { λ run number. run_at_end styles.Records (taking Sample (convert_turn run.rep run.form.to (tree run.ty))) (λ u. finished) tt number };
 }

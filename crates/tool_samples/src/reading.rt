@@ -7,29 +7,31 @@ use std::alloc::Global;
 use tool_output::{Stop, Turns, say};
 use type_trees::XType;
 use xt_io::{BundleReader, Head, Kind, Sink, Source};
+use xt_shapes::Rep;
 
-/// A piece for each sample, by the reader's type, in the form that is asked.
+/// A piece for each sample, by its representation and the reader's type, in the form that is asked.
 #[derive(Drop)]
 pub struct Samples<F> {
+    rep: Rep,
     ty: XType,
     form: F,
     ghost valid: { IsValid ty },
 }
 
 impl<F: Shows + Drop> Samples<F> {
-    pub fn new(ty: XType, form: F) -> Samples<F>
+    pub fn new(rep: Rep, ty: XType, form: F) -> Samples<F>
         requires { IsValid ty }
+        ensures rep { result.rep ≡ rep }
         ensures ty { result.ty ≡ ty }
         ensures form { result.form ≡ form }
     {
-        Samples { ty, form }
+        Samples { rep, ty, form }
     }
 }
 
 impl<F: Shows + Drop> Turns for Samples<F> {
     ghost use Rattle.type_trees.specs.View.{tree};
     ghost use Rattle.xt_io.specs.declared.Kind.TheVariants.{Sample};
-    ghost use Rattle.xt_shapes.specs.declared.leaves.Rep.TheVariants.{Xcdr2};
     ghost use Rattle.tool_output.specs.Outputs.{run, taking, finished, same_kind};
     ghost use Rattle.tool_output.proofs.Turning.{run_at_fault, run_at_other};
     ghost use Rattle.tool_lines.specs.Lines.{shown_turn};
@@ -38,7 +40,7 @@ impl<F: Shows + Drop> Turns for Samples<F> {
 
     ghost kinds = { λ kind. same_kind kind Sample };
 
-    ghost to_write = { λ s k bundle. run F.style (taking Sample (shown_turn Xcdr2 (F.piece s.form (tree s.ty)) (tree s.ty))) (λ u. finished) tt k bundle };
+    ghost to_write = { λ s k bundle. run F.style (taking Sample (shown_turn s.rep (F.piece s.form (tree s.ty)) (tree s.ty))) (λ u. finished) tt k bundle };
 
     fn takes(kind: Kind) -> bool {
         match kind {
@@ -55,7 +57,7 @@ impl<F: Shows + Drop> Turns for Samples<F> {
         reader: BundleReader<S>,
         sink: &mut K,
     ) -> (BundleReader<S>, Result<(), Stop>) {
-        let (back, shown) = sample_piece(alloc, &self.form, &self.ty, head, reader);
+        let (back, shown) = sample_piece(alloc, &self.form, self.rep, &self.ty, head, reader);
         match shown {
             Err(stop) => (back, Err(stop)),
             Ok(piece) => match say(sink, piece.octets()) {
@@ -65,7 +67,7 @@ impl<F: Shows + Drop> Turns for Samples<F> {
         }
     }
 
-    ghost at_fault = { λ s k fault. run_at_fault F.style (taking Sample (shown_turn Xcdr2 (F.piece s.form (tree s.ty)) (tree s.ty))) (λ u. finished) tt k fault };
+    ghost at_fault = { λ s k fault. run_at_fault F.style (taking Sample (shown_turn s.rep (F.piece s.form (tree s.ty)) (tree s.ty))) (λ u. finished) tt k fault };
 
-    ghost at_other = { λ s k item more other. run_at_other F.style Sample (shown_turn Xcdr2 (F.piece s.form (tree s.ty)) (tree s.ty)) (λ u. finished) tt k item more other };
+    ghost at_other = { λ s k item more other. run_at_other F.style Sample (shown_turn s.rep (F.piece s.form (tree s.ty)) (tree s.ty)) (λ u. finished) tt k item more other };
 }

@@ -4,7 +4,6 @@ ghost use Rattle.type_trees.specs.Bridge.{type_shape};
 ghost use Rattle.settled_parts.specs.Settling.{outcome_val};
 ghost use Rattle.projection_laws.specs.Premises.{IsValid};
 ghost use Rattle.xcdr_model.specs.Samples.{read_sample};
-ghost use Rattle.xt_shapes.specs.declared.leaves.Rep.TheVariants.{Xcdr2};
 ghost use Rattle.tool_output.specs.declared.turns.Next.TheVariants.{Record};
 ghost use Rattle.tool_output.specs.Runs.{coming, IsReady, GoesOn, StopsReading, TakesPayload};
 ghost use Rattle.tool_samples.specs.Sampling.{Says};
@@ -16,9 +15,9 @@ use tool_output::{Halt, Stop, stop_for};
 use type_trees::XType;
 use wire_cursor::DecodeFault;
 use wire_streams::StreamCursor;
-use xcdr_samples::read_sample2;
 use xt_io::{BundleReader, Head, Source};
 use xt_lists::Text;
+use xt_shapes::Rep;
 
 // What is written of what was read.
 fn piece_of<F: Shows>(
@@ -44,24 +43,25 @@ fn piece_of<F: Shows>(
     }
 }
 
-/// What is written of the sample whose head the reader just gave, by the reader's type alone. The sample is read as its octets come,
+/// What is written of the sample whose head the reader just gave, by its representation and the reader's type alone. The sample is read as its octets come,
 /// and the rest of a malformed one before its piece is given; a sample that is cut has none. The reader is given back.
 pub fn sample_piece<F: Shows, S: Source>(
     alloc: Global,
     form: &F,
+    rep: Rep,
     ty: &XType,
     head: Head,
     reader: BundleReader<S>,
 ) -> (BundleReader<S>, Result<Text, Stop>)
     requires ready { IsReady head reader }
     requires valid { IsValid ty.now }
-    ensures takes { TakesPayload head (λ text octets. text ≡ F.piece form.now (tree ty.now) (read_sample Xcdr2 (type_shape ty.now) octets)) (coming (Record head) reader) result.0.ahead result.1 }
+    ensures takes { TakesPayload head (λ text octets. text ≡ F.piece form.now (tree ty.now) (read_sample rep (type_shape ty.now) octets)) (coming (Record head) reader) result.0.ahead result.1 }
     ensures on { OnOk result.1 (GoesOn reader result.0) }
     ensures stops { StopsReading reader.faults result.0.faults result.1 }
     ensures same { result.0.name ≡ reader.name }
 {
     let mut cursor = StreamCursor::new(reader, head.length);
-    let read = read_sample2(alloc, ty, &mut cursor);
+    let read = xcdr_samples::read_sample(alloc, rep, ty, &mut cursor);
     let mut reader = cursor.end();
     match reader.payload(alloc) {
         Err(fault) => (reader, Err(stop_for(alloc, fault))),

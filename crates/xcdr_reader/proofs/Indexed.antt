@@ -10,9 +10,11 @@ use Rattle.type_trees.specs.declared.types.Case as declared_case
 use Rattle.type_trees.specs.Bridge.{type_shape, members_shape, member_head, cases_shape}
 use Rattle.type_trees.proofs.Views.{member_tree_is, case_tree_is}
 use Rattle.xcdr_model.specs.Premises.{distinct_members, sound, sound_members, sound_cases}
-use Rattle.xcdr_model.specs.Xcdr2Reading.{read, read_named}
 use Rattle.settled_parts.specs.Members.{at_index}
-use Rattle.xcdr_two_steps.specs.Indices.{index_of}
+use Rattle.reading_steps.specs.Indices.{index_of}
+use Rattle.xcdr_reader.specs.declared.modes.Mode.{Mode}
+use Rattle.xcdr_reader.specs.Modes.{content_in}
+use Rattle.xcdr_reader.specs.Members.{named_in}
 
 -- ---- by the index
 
@@ -55,21 +57,21 @@ indexed (m ∷ ms) (suc i) d within = rw (member_tree_is m) (indexed ms i d (ome
 
 -- what is found of an id: a member with it, which its readers find
 abbrev Found : Members → ℕ → ℕ → Type 0
-Found ms i id = (h : Head) × (t : Shape) × (at_index ms i ≡ Some (h, t)) × (h.id ≡ id) × ((o : Order) → read_named o ms id ≡ Some (λ s1. read o t s1))
+Found ms i id = (h : Head) × (t : Shape) × (at_index ms i ≡ Some (h, t)) × (h.id ≡ id) × ((k : Mode) (o : Order) → named_in k o ms id ≡ Some (λ n s. content_in k n t o s))
 
 found_later : (h : Head) (t : Shape) (ms : Members) (i id : ℕ) (x : Option ℕ) → ((j : ℕ) → x ≡ Some j → Found ms j id) → (h.id == id) ≡ false → option_map (λ i. suc i) x ≡ Some i → Found (member h t ms) i id
-unfolding read_named
+unfolding named_in
 found_later h t ms i id None more other e = absurd cc
 found_later h t ms i id (Some j) more other e =
     let f = more j refl in
     let at : suc j ≡ i = cc in
-    (f.0, f.1, subst (λ (n : ℕ). at_index (member h t ms) n ≡ Some (f.0, f.1)) at f.2, f.3, λ o. rw other (f.4 o))
+    (f.0, f.1, subst (λ (n : ℕ). at_index (member h t ms) n ≡ Some (f.0, f.1)) at f.2, f.3, λ k o. rw other (f.4 k o))
 
 found_test : (h : Head) (t : Shape) (ms : Members) (i id : ℕ) (b : Bool) → ((j : ℕ) → index_of ms id ≡ Some j → Found ms j id) → (h.id == id) ≡ b → cond b (Some 0) (option_map (λ i. suc i) (index_of ms id)) ≡ Some i → Found (member h t ms) i id
-unfolding read_named
+unfolding named_in
 found_test h t ms i id true more same e =
     let at : 0 ≡ i = cc in
-    (h, t, subst (λ (n : ℕ). at_index (member h t ms) n ≡ Some (h, t)) at refl, eqb-true h.id id same, λ o. rw same refl)
+    (h, t, subst (λ (n : ℕ). at_index (member h t ms) n ≡ Some (h, t)) at refl, eqb-true h.id id same, λ k o. rw same refl)
 found_test h t ms i id false more other e = found_later h t ms i id (index_of ms id) more other e
 
 -- an index that was found is of a member with that id
@@ -81,14 +83,14 @@ none_of : (x : Option ℕ) → option_map (λ i. suc i) x ≡ None → x ≡ Non
 none_of None e = refl
 none_of (Some i) e = absurd cc
 
-not_test : (h : Head) (t : Shape) (ms : Members) (id : ℕ) (o : Order) (b : Bool) → (index_of ms id ≡ None → read_named o ms id ≡ None) → cond b (Some 0) (option_map (λ i. suc i) (index_of ms id)) ≡ None → cond b (Some (λ s1. read o t s1)) (read_named o ms id) ≡ None
-not_test h t ms id o true more e = absurd cc
-not_test h t ms id o false more e = more (none_of (index_of ms id) e)
+not_test : (h : Head) (t : Shape) (ms : Members) (id : ℕ) (k : Mode) (o : Order) (b : Bool) → (index_of ms id ≡ None → named_in k o ms id ≡ None) → cond b (Some 0) (option_map (λ i. suc i) (index_of ms id)) ≡ None → cond b (Some (λ n s. content_in k n t o s)) (named_in k o ms id) ≡ None
+not_test h t ms id k o true more e = absurd cc
+not_test h t ms id k o false more e = more (none_of (index_of ms id) e)
 
-pub not_found : (ms : Members) (id : ℕ) (o : Order) → index_of ms id ≡ None → read_named o ms id ≡ None
-unfolding read_named
-not_found no_members id o is = refl
-not_found (member h t ms) id o is = not_test h t ms id o (h.id == id) (λ e. not_found ms id o e) is
+pub not_found : (ms : Members) (id : ℕ) (k : Mode) (o : Order) → index_of ms id ≡ None → named_in k o ms id ≡ None
+unfolding named_in
+not_found no_members id k o is = refl
+not_found (member h t ms) id k o is = not_test h t ms id k o (h.id == id) (λ e. not_found ms id k o e) is
 
 -- ---- what the types' soundness gives their parts
 

@@ -16,15 +16,16 @@ use Rattle.wire_cursor.specs.Decoding.{Decodes}
 use Rattle.wire_cursor.proofs.Ahead.{decodes_as}
 use Rattle.settled_parts.specs.declared.part.Part.{Part}
 use Rattle.settled_parts.specs.Parts.{part_of}
+use Rattle.xcdr_reader.specs.declared.modes.Mode.{Mode}
 use Rattle.xcdr_reader.specs.Insides.{inside, structure_inside, union_inside}
 
-pub struct_inside : (k : StructType) (e : Ext) (ms : List Member) {a b : Standing} {r : Result Part DecodeFault} → (out-StructType k).ext ≡ e → (out-StructType k).members ≡ ms
-    → Decodes part_of (structure_inside e (members_shape ms)) a b r → Decodes part_of (inside (shape (struct_tree k))) a b r
-struct_inside k e ms {a} is have d = decodes_as part_of (inside (shape (struct_tree k))) (structure_inside e (members_shape ms)) (λ s. rw (struct_tree_is k, is, have) refl) d
+pub struct_inside : (m : Mode) (k : StructType) (e : Ext) (ms : List Member) {a b : Standing} {r : Result Part DecodeFault} → (out-StructType k).ext ≡ e → (out-StructType k).members ≡ ms
+    → Decodes part_of (structure_inside m e (members_shape ms)) a b r → Decodes part_of (inside m (shape (struct_tree k))) a b r
+struct_inside m k e ms {a} is have d = decodes_as part_of (inside m (shape (struct_tree k))) (structure_inside m e (members_shape ms)) (λ s. rw (struct_tree_is k, is, have) refl) d
 
-pub union_is_inside : (k : UnionType) (e : Ext) {a b : Standing} {r : Result Part DecodeFault} → (out-UnionType k).ext ≡ e
-    → Decodes part_of (union_inside e (type_shape (out-UnionType k).disc) (cases_shape (out-UnionType k).cases)) a b r → Decodes part_of (inside (shape (union_tree k))) a b r
-union_is_inside k e {a} is d = decodes_as part_of (inside (shape (union_tree k))) (union_inside e (type_shape (out-UnionType k).disc) (cases_shape (out-UnionType k).cases)) (λ s. rw (union_tree_is k, is) refl) d
+pub union_is_inside : (m : Mode) (k : UnionType) (e : Ext) {a b : Standing} {r : Result Part DecodeFault} → (out-UnionType k).ext ≡ e
+    → Decodes part_of (union_inside m e (type_shape (out-UnionType k).disc) (cases_shape (out-UnionType k).cases)) a b r → Decodes part_of (inside m (shape (union_tree k))) a b r
+union_is_inside m k e {a} is d = decodes_as part_of (inside m (shape (union_tree k))) (union_inside m e (type_shape (out-UnionType k).disc) (cases_shape (out-UnionType k).cases)) (λ s. rw (union_tree_is k, is) refl) d
 
 pub struct_sound : (k : StructType) (ms : List Member) → (out-StructType k).members ≡ ms → sound (shape (struct_tree k)) ≡ true → (distinct_members (members_shape ms) ≡ true) × (sound_members (members_shape ms) ≡ true)
 struct_sound k ms have ok =

@@ -1,6 +1,10 @@
 pub mod Gathering
+pub mod Regions
+pub mod OneMember
 pub mod InOrder
+pub mod SeenIds
 pub mod Pieces
+pub mod Parameters
 pub mod Readings
 pub mod Indexed
 pub mod PartSteps
@@ -10,3 +14,5 @@ pub mod CaseSteps
 pub mod PieceSteps
 pub mod KindSteps
 pub mod LeafSteps
+pub mod ModeSteps
+pub mod Values

@@ -9,20 +9,22 @@ use Rattle.xcdr_model.specs.Premises.{distinct_members}
 use Rattle.xcdr_model.specs.Projection.{Built, Part, built_at, any_unseen, slot_from, whole_structure}
 use Rattle.std.proofs.lemmas.Bool.{le-ltb}
 use Rattle.xcdr_model.specs.declared.malformed.Why.TheVariants.{Twice}
-use Rattle.xcdr_model.specs.Reading.{Spot, Reading, fault_at, ◌>>=◌, filling}
+use Rattle.xcdr_model.specs.Reading.{Spot, Reading, fault_at, ◌>>=◌}
 use Rattle.wire_cursor.specs.Steps.{pass_at}
-use Rattle.xcdr_two_steps.specs.declared.headers.Header.{Header}
-use Rattle.xcdr_model.specs.Xcdr2Reading.{read, read_named}
+use Rattle.reading_steps.specs.declared.headings.Header.{Header}
 use Rattle.settled_parts.specs.Members.{by_member, so_far, have_come, and_slot_at, filled_of, at_index}
 use Rattle.settled_parts.proofs.StructureSteps.{comes, none_came, filled_whole, member_count}
 use Rattle.settled_parts.proofs.GatherSteps.{or_false}
 use Rattle.wire_cursor.specs.Standing.{Standing, Stands, room}
-use Rattle.wire_cursor.specs.Decoding.{Decodes, spot}
-use Rattle.wire_cursor.proofs.Ahead.{Ahead, begins, goes_on, rephrased, room_is}
-use Rattle.xcdr_two_steps.specs.Headers.{Told, header_view, maybe_header, next_at}
-use Rattle.xcdr_two_steps.specs.Indices.{index_of}
+use Rattle.wire_cursor.specs.Decoding.{spot}
+use Rattle.wire_cursor.proofs.Ahead.{Ahead, begins, rephrased, room_is}
+use Rattle.reading_steps.specs.Headings.{Told, Next, ended, ignored, told, header_view}
+use Rattle.reading_steps.specs.Indices.{index_of}
+use Rattle.xcdr_reader.specs.declared.modes.Mode.{Mode}
+use Rattle.xcdr_reader.specs.Modes.{content_in, next_in}
 use Rattle.xcdr_reader.specs.declared.known.Known.{Known}
-use Rattle.xcdr_reader.specs.Members.{Pieces, piece_read, if_header, pieces_then, mutable_read, Holds, IsIndexed, flag_at, has_come}
+use Rattle.xcdr_reader.specs.Members.{Pieces, named_in, piece_read, heading_read, next_piece, if_piece, no_more, pieces_then, mutable_read, Holds, IsIndexed, flag_at, has_come}
+use Rattle.xcdr_reader.proofs.Gathering.{each_bind}
 use Rattle.xcdr_reader.proofs.Indexed.{found, not_found, indexed}
 
 -- ---- the flags of what came
@@ -56,43 +58,50 @@ came_is ms k ps id i h is =
     let flags : (by_member k.slots).1 ≡ have_come ms ps.0 = ap (λ (y : Option (List (Option Body)) × List Bool × Bool). y.1) h.slots in
     ap₂ flag_at flags is ∙ flag_some (have_come ms ps.0) i (is_some (built_at ps.0 f.0.id)) (flag_of ms ps.0 i f.0 f.1 f.2) ∙ ap (λ (n : ℕ). is_some (built_at ps.0 n)) f.3
 
-same_piece : (ms : Members) (k : Known) (ps : Pieces) (id : ℕ) (h : Told) (o : Order) (s : Spot) (x : Option ℕ) → Holds ms k ps → index_of ms id ≡ x → piece_read (read_named o ms id) (is_some (built_at ps.0 id)) h s ≡ piece_read (read_named o ms id) (has_come ms k id) h s
-same_piece ms k ps id h o s None held is = rw (not_found ms id o is) refl
-same_piece ms k ps id h o s (Some i) held is = ap (λ b. piece_read (read_named o ms id) b h s) (sym (came_is ms k ps id i held is))
+same_piece : (m : Mode) (ms : Members) (k : Known) (ps : Pieces) (h : Told) (o : Order) (s : Spot) (x : Option ℕ) → Holds ms k ps → index_of ms h.id ≡ x → piece_read (named_in m o ms h.id) (is_some (built_at ps.0 h.id)) h s ≡ piece_read (named_in m o ms h.id) (has_come ms k h.id) h s
+same_piece m ms k ps h o s None held is = rw (not_found ms h.id m o is) refl
+same_piece m ms k ps h o s (Some i) held is = ap (λ b. piece_read (named_in m o ms h.id) b h s) (sym (came_is ms k ps h.id i held is))
+
+same_heading : (m : Mode) (ms : Members) (k : Known) (ps : Pieces) (x : Next) (o : Order) (s : Spot) → Holds ms k ps → heading_read m ms (λ id. is_some (built_at ps.0 id)) x o s ≡ heading_read m ms (has_come ms k) x o s
+same_heading m ms k ps ended o s held = refl
+same_heading m ms k ps (ignored n) o s held = refl
+same_heading m ms k ps (told h) o s held = ap (λ (r : Reading Pieces). r >>= λ y. Ok (Some y.0, y.1)) (same_piece m ms k ps h o s (index_of ms h.id) held refl)
+
+-- what comes next, as the program tells whether its member came
+same_next : (m : Mode) (ms : Members) (k : Known) (ps : Pieces) (o : Order) (s : Spot) → Holds ms k ps → next_piece m ms (λ id. is_some (built_at ps.0 id)) o s ≡ next_piece m ms (has_come ms k) o s
+same_next m ms k ps o s held = each_bind (next_in m o s) (λ x. heading_read m ms (λ id. is_some (built_at ps.0 id)) x.0 o x.1) (λ x. heading_read m ms (has_come ms k) x.0 o x.1) (λ x. same_heading m ms k ps x.0 o x.1 held)
 
 -- ---- one after another
 
-abbrev pub pieces_from : Members → ℕ → ℕ → Pieces → Order → Spot → Reading Part
-pieces_from ms n i ps = pieces_then ms (n - i) ps
+abbrev pub pieces_from : Mode → Members → ℕ → ℕ → Pieces → Order → Spot → Reading Part
+pieces_from m ms n i ps = pieces_then m ms (n - i) ps
 
-abbrev pub piece_then : Members → ℕ → ℕ → Pieces → Pieces → Order → Spot → Reading Part
-piece_then ms n i ps x = pieces_from ms n (i + 1) (ps.0 ++ x.0, ps.1 || x.1)
+abbrev pub piece_then : Mode → Members → ℕ → ℕ → Pieces → Pieces → Order → Spot → Reading Part
+piece_then m ms n i ps x = pieces_from m ms n (i + 1) (ps.0 ++ x.0, ps.1 || x.1)
 
-abbrev pub header_then : Members → ℕ → ℕ → Pieces → Option Told → Order → Spot → Reading Part
-header_then ms n i ps h o s = if_header h (Ok (whole_structure ms ps.0 ps.1, s)) (λ k. piece_read (read_named o ms k.id) (is_some (built_at ps.0 k.id)) k s >>= λ x. piece_then ms n i ps x.0 o x.1)
+abbrev pub piece_after : Mode → Members → ℕ → ℕ → Pieces → Option Pieces → Order → Spot → Reading Part
+piece_after m ms n i ps x o s = if_piece x (Ok (whole_structure ms ps.0 ps.1, s)) (λ q. piece_then m ms n i ps q o s)
 
-pub pieces_begin : (ms : Members) (n : ℕ) (a : Standing) → Stands a → n ≡ room a → Ahead (mutable_read ms) (pieces_from ms n 0 ([], false)) a a
-pieces_begin ms n a st e = rephrased (mutable_read ms) (pieces_from ms n 0 ([], false)) (begins (mutable_read ms) (mutable_read ms) a (λ s. refl))
-    (λ xs is. ap (λ (k : ℕ). pieces_then ms k ([], false) a.order (spot a xs)) (room_is xs st is ∙ omega (arith, e)))
+pub pieces_begin : (m : Mode) (ms : Members) (n : ℕ) (a : Standing) → Stands a → n ≡ room a → Ahead (mutable_read m ms) (pieces_from m ms n 0 ([], false)) a a
+pieces_begin m ms n a st e = rephrased (mutable_read m ms) (pieces_from m ms n 0 ([], false)) (begins (mutable_read m ms) (mutable_read m ms) a (λ s. refl))
+    (λ xs is. ap (λ (k : ℕ). pieces_then m ms k ([], false) a.order (spot a xs)) (room_is xs st is ∙ omega (arith, e)))
 
-pub piece_next : (ms : Members) (n i : ℕ) (ps : Pieces) {f : Order → Spot → Reading Part} {a b : Standing} → i < n → Ahead f (pieces_from ms n i ps) a b → Ahead f (λ o s. next_at o s >>= λ h. header_then ms n i ps h.0 o h.1) a b
+abbrev with_next : Mode → Members → ℕ → ℕ → Pieces → Order → Reading (Option Pieces) → Reading Part
+with_next m ms n i ps o r = r >>= λ x. piece_after m ms n i ps x.0 o x.1
+
+pub piece_next : (m : Mode) (ms : Members) (n i : ℕ) (k : Known) (ps : Pieces) {f : Order → Spot → Reading Part} {a b : Standing} → i < n → Holds ms k ps → Ahead f (pieces_from m ms n i ps) a b
+    → Ahead f (λ o s. next_piece m ms (has_come ms k) o s >>= λ x. piece_after m ms n i ps x.0 o x.1) a b
 unfolding pieces_then
-piece_next ms n i ps {b = b} lt u =
+piece_next m ms n i k ps {b = b} lt held u =
     let next : n - i ≡ suc (n - (i + 1)) = omega arith in
-    rephrased (pieces_from ms n i ps) (λ o s. next_at o s >>= λ h. header_then ms n i ps h.0 o h.1) u (λ xs is. ap (λ (k : ℕ). pieces_then ms k ps b.order (spot b xs)) next)
+    rephrased (pieces_from m ms n i ps) (λ o s. next_piece m ms (has_come ms k) o s >>= λ x. piece_after m ms n i ps x.0 o x.1) u
+    (λ xs is. ap (λ (j : ℕ). pieces_then m ms j ps b.order (spot b xs)) next ∙ ap (with_next m ms n i ps b.order) (same_next m ms k ps b.order (spot b xs) held))
 
-pub piece_none : (ms : Members) (n i : ℕ) (ps : Pieces) {f : Order → Spot → Reading Part} {a b : Standing} → n ≤ i → Ahead f (pieces_from ms n i ps) a b → Ahead f (λ o s. Ok (whole_structure ms ps.0 ps.1, s)) a b
+pub piece_none : (m : Mode) (ms : Members) (n i : ℕ) (ps : Pieces) {f : Order → Spot → Reading Part} {a b : Standing} → n ≤ i → Ahead f (pieces_from m ms n i ps) a b → Ahead f (λ o s. no_more m (whole_structure ms ps.0 ps.1) s) a b
 unfolding pieces_then
-piece_none ms n i ps {b = b} le u =
+piece_none m ms n i ps {b = b} le u =
     let none : n - i ≡ 0 = omega arith in
-    rephrased (pieces_from ms n i ps) (λ o s. Ok (whole_structure ms ps.0 ps.1, s)) u (λ xs is. ap (λ (k : ℕ). pieces_then ms k ps b.order (spot b xs)) none)
-
--- the piece of a header, as the program tells whether its member came
-pub piece_comes : (ms : Members) (n i : ℕ) (ps : Pieces) (k : Known) (h : Told) {f : Order → Spot → Reading Part} {a b : Standing} → Holds ms k ps → Ahead f (header_then ms n i ps (Some h)) a b
-    → Ahead f (λ o s. piece_read (read_named o ms h.id) (has_come ms k h.id) h s >>= λ x. piece_then ms n i ps x.0 o x.1) a b
-piece_comes ms n i ps k h {b = b} held u =
-    rephrased (header_then ms n i ps (Some h)) (λ o s. piece_read (read_named o ms h.id) (has_come ms k h.id) h s >>= λ x. piece_then ms n i ps x.0 o x.1) u
-    (λ xs is. ap (λ r. r >>= λ x. piece_then ms n i ps x.0 b.order x.1) (same_piece ms k ps h.id h b.order (spot b xs) (index_of ms h.id) held refl))
+    rephrased (pieces_from m ms n i ps) (λ o s. no_more m (whole_structure ms ps.0 ps.1) s) u (λ xs is. ap (λ (k : ℕ). pieces_then m ms k ps b.order (spot b xs)) none)
 
 -- ---- what is kept
 
@@ -124,53 +133,60 @@ none_held ms k e u i = record { slots = e ∙ ap (λ (n : ℕ). (Some (replicate
 
 -- ---- a piece
 
-abbrev pub piece_at : Members → Known → Header → Standing → Order → Spot → Reading Pieces
-piece_at ms k h a o s = piece_read (read_named o ms h.id) (has_come ms k h.id) (header_view a h) s
+abbrev pub piece_at : Mode → Members → Known → Header → Standing → Order → Spot → Reading Pieces
+piece_at m ms k h a o s = piece_read (named_in m o ms h.id) (has_come ms k h.id) (header_view a h) s
 
 came_index : (ms : Members) (k : Known) (id : ℕ) (x : Option ℕ) → index_of ms id ≡ x → flag_at (by_member k.slots).1 x ≡ true → (i : ℕ) × (index_of ms id ≡ Some i)
 came_index ms k id None is e = absurd cc
 came_index ms k id (Some i) is e = (i, is)
 
-pub piece_twice : (ms : Members) (k : Known) (h : Header) (a : Standing) → has_come ms k h.id ≡ true → Ahead (piece_at ms k h a) (λ o s. fault_at (h.at - a.origin) Twice) a a
-piece_twice ms k h a e =
+pub piece_twice : (m : Mode) (ms : Members) (k : Known) (h : Header) (a : Standing) → has_come ms k h.id ≡ true → Ahead (piece_at m ms k h a) (λ o s. fault_at (h.at - a.origin) Twice) a a
+piece_twice m ms k h a e =
     let at = came_index ms k h.id (index_of ms h.id) refl e in
     let f = found ms at.0 h.id at.1 in
-    begins (piece_at ms k h a) (λ o s. fault_at (h.at - a.origin) Twice) a (λ s. rw (f.4 a.order, e) refl)
+    begins (piece_at m ms k h a) (λ o s. fault_at (h.at - a.origin) Twice) a (λ s. rw (f.4 m a.order, e) refl)
 
 abbrev pub passed_piece : Bool → Unit {0} → Order → Spot → Reading Pieces
 passed_piece must u o s = Ok (([], must), s)
 
-pub piece_passed : (ms : Members) (k : Known) (h : Header) (a : Standing) → Stands a → h.length ≤ room a → index_of ms h.id ≡ None → Ahead (piece_at ms k h a) (λ o s. pass_at h.length o s >>= λ u. passed_piece h.must u.0 o u.1) a a
+pub piece_passed : (m : Mode) (ms : Members) (k : Known) (h : Header) (a : Standing) → Stands a → h.length ≤ room a → index_of ms h.id ≡ None → Ahead (piece_at m ms k h a) (λ o s. pass_at h.length o s >>= λ u. passed_piece h.must u.0 o u.1) a a
 unfolding ◌>>=◌
-piece_passed ms k h a st fits is = rephrased (piece_at ms k h a) (λ o s. pass_at h.length o s >>= λ u. passed_piece h.must u.0 o u.1) (begins (piece_at ms k h a) (piece_at ms k h a) a (λ s. refl))
-    (λ xs e. let long : nat_lt (length (take (room a) xs)) h.length ≡ false = le-ltb _ _ (omega (arith, room_is xs st e, fits)) in rw (not_found ms h.id a.order is, long) refl)
+piece_passed m ms k h a st fits is = rephrased (piece_at m ms k h a) (λ o s. pass_at h.length o s >>= λ u. passed_piece h.must u.0 o u.1) (begins (piece_at m ms k h a) (piece_at m ms k h a) a (λ s. refl))
+    (λ xs e. let long : nat_lt (length (take (room a) xs)) h.length ≡ false = le-ltb _ _ (omega (arith, room_is xs st e, fits)) in rw (not_found ms h.id m a.order is, long) refl)
 
 abbrev pub kept_piece : ℕ → Part → Order → Spot → Reading Pieces
 kept_piece id y o s = Ok (((id, y) ∷ [], false), s)
 
-abbrev pub content_read : ℕ → Shape → Order → Spot → Reading Part
-content_read n t o s = filling n (λ s1. read o t s1) s
-
-pub piece_kept : (ms : List declared.Member) (k : Known) (h : Header) (a : Standing) (at : ℕ) (d : declared.Member) → index_of (members_shape ms) h.id ≡ Some at → has_come (members_shape ms) k h.id ≡ false → at < length ms
-    → Ahead (piece_at (members_shape ms) k h a) (λ o s. content_read h.length (type_shape (get_or ms at d).ty) o s >>= λ y. kept_piece h.id y.0 o y.1) a a
-piece_kept ms k h a at d is new within =
+pub piece_kept : (m : Mode) (ms : List declared.Member) (k : Known) (h : Header) (a : Standing) (at : ℕ) (d : declared.Member) → index_of (members_shape ms) h.id ≡ Some at → has_come (members_shape ms) k h.id ≡ false → at < length ms
+    → Ahead (piece_at m (members_shape ms) k h a) (λ o s. content_in m h.length (type_shape (get_or ms at d).ty) o s >>= λ y. kept_piece h.id y.0 o y.1) a a
+piece_kept m ms k h a at d is new within =
     let f = found (members_shape ms) at h.id is in
     let pair : (f.0, f.1) ≡ (member_head (get_or ms at d), type_shape (get_or ms at d).ty) = some_same (f.0, f.1) (member_head (get_or ms at d), type_shape (get_or ms at d).ty) (sym f.2 ∙ indexed ms at d within) in
     let shape : f.1 ≡ type_shape (get_or ms at d).ty = ap (λ (y : Head × Shape). y.1) pair in
-    begins (piece_at (members_shape ms) k h a) _ a (λ s. rw (f.4 a.order, new, shape) refl)
+    begins (piece_at m (members_shape ms) k h a) _ a (λ s. rw (f.4 m a.order, new, shape) refl)
 
--- ---- a header that was read, and the piece behind it
+-- ---- what comes next
+
+abbrev pub heading_then : Mode → Members → (ℕ → Bool) → Next → Order → Spot → Reading (Option Pieces)
+heading_then m ms came x o s = heading_read m ms came x o s
+
+pub next_begin : (m : Mode) (ms : Members) (came : ℕ → Bool) (a : Standing) → Ahead (next_piece m ms came) (λ o s. next_in m o s >>= λ x. heading_then m ms came x.0 o x.1) a a
+next_begin m ms came a = begins (next_piece m ms came) _ a (λ s. refl)
+
+abbrev pub nothing_known : Unit {0} → Order → Spot → Reading (Option Pieces)
+nothing_known u o s = Ok (Some ([], false), s)
+
+pub next_passed : (m : Mode) (ms : Members) (came : ℕ → Bool) (n : ℕ) {f : Order → Spot → Reading (Option Pieces)} {a b : Standing} → Stands b → n ≤ room b → Ahead f (heading_then m ms came (ignored n)) a b → Ahead f (λ o s. pass_at n o s >>= λ u. nothing_known u.0 o u.1) a b
+unfolding ◌>>=◌
+next_passed m ms came n {b = b} st fits u = rephrased (heading_then m ms came (ignored n)) (λ o s. pass_at n o s >>= λ u. nothing_known u.0 o u.1) u
+    (λ xs e. let long : nat_lt (length (take (room b) xs)) n ≡ false = le-ltb _ _ (omega (arith, room_is xs st e, fits)) in rw long refl)
+
+abbrev pub some_piece : Pieces → Order → Spot → Reading (Option Pieces)
+some_piece q o s = Ok (Some q, s)
 
 told_same : (a b : Standing) (h : Header) → b.origin ≡ a.origin → header_view a h ≡ header_view b h
 told_same a b h e = ap (λ (k : ℕ). record { at = h.at - k; id = h.id; must = h.must; size = h.length }) (sym e)
 
-pub header_read : (ms : Members) (n i : ℕ) (ps : Pieces) (k : Known) {f : Order → Spot → Reading Part} {a b c : Standing} (h : Header) → Holds ms k ps → Ahead f (λ o s. next_at o s >>= λ x. header_then ms n i ps x.0 o x.1) a b → Decodes (maybe_header b) next_at b c (Ok (Some h))
-    → Ahead f (λ o s. piece_at ms k h c o s >>= λ x. piece_then ms n i ps x.0 o x.1) a c
-header_read ms n i ps k {f} {a} {b} {c} h held u d =
-    let v = goes_on (maybe_header b) next_at (header_then ms n i ps) u d in
-    let w = subst (λ (y : Told). Ahead f (header_then ms n i ps (Some y)) a c) (told_same b c h d.within.origin) v in
-    piece_comes ms n i ps k (header_view c h) held w
-
-pub header_none : (ms : Members) (n i : ℕ) (ps : Pieces) {f : Order → Spot → Reading Part} {a b c : Standing} → Ahead f (λ o s. next_at o s >>= λ x. header_then ms n i ps x.0 o x.1) a b → Decodes {T = Option Header} (maybe_header b) next_at b c (Ok None)
-    → Ahead f (λ o s. Ok (whole_structure ms ps.0 ps.1, s)) a c
-header_none ms n i ps {b = b} u d = goes_on (maybe_header b) next_at (header_then ms n i ps) u d
+-- the piece of a header, whose place is counted from the same origin
+pub next_told : (m : Mode) (ms : Members) (k : Known) (h : Header) {f : Order → Spot → Reading (Option Pieces)} {a : Standing} (b : Standing) {c : Standing} → c.origin ≡ b.origin → Ahead f (heading_then m ms (has_come ms k) (told (header_view b h))) a c → Ahead f (λ o s. piece_at m ms k h c o s >>= λ y. some_piece y.0 o y.1) a c
+next_told m ms k h {f} {a} b {c} same u = subst (λ (y : Told). Ahead f (heading_then m ms (has_come ms k) (told y)) a c) (told_same b c h same) u

@@ -3,16 +3,19 @@ use Rattle.std.proofs.Common.{◌≡◌, refl, sym, ap, ◌∙◌, ℕ, zero, su
 use Rattle.std.proofs.lemmas.Bool.{cases_Bool, eqb-true, ne_eqb, eqb-false}
 use Rattle.xt_shapes.specs.declared.leaves.Order.{Order}
 use Rattle.xt_shapes.specs.Lists.{has}
-use Rattle.xt_shapes.specs.Shape.{Members}
+use Rattle.std.specs.Option.{option_map}
+use Rattle.xt_shapes.specs.Shape.{Members, no_members, member}
 use Rattle.xcdr_model.specs.declared.malformed.Fault.{Fault}
 use Rattle.xcdr_model.specs.declared.malformed.Why.TheVariants.{MemberId, MemberSize, Twice, LengthRest}
 use Rattle.xcdr_model.specs.Reading.{Spot, Reading, fault_at, ◌>>=◌, number_at, step, front, passing, filling, is_used_up}
-use Rattle.xcdr_model.specs.Projection.{Built, Part, whole_structure, built_at}
-use Rattle.xcdr_model.specs.Xcdr2Reading.{read_named, done, Piece, Contents, piece_at, pieces_at, ends, and_more, content_of, contents, content_at, holder, members_at}
+use Rattle.xcdr_model.specs.Projection.{Part, whole_structure, built_at}
+use Rattle.xcdr_model.specs.Xcdr2Reading.{read, read_named, done, Piece, Contents, piece_at, pieces_at, ends, and_more, content_of, contents, content_at, holder, members_at}
 use Rattle.settled_parts.proofs.GatherSteps.{or_assoc, or_false}
-use Rattle.settled_parts.proofs.StructureSteps.{built_append, first_built}
-use Rattle.xcdr_two_steps.specs.Headers.{Told, told_of, checked_header, header_at}
-use Rattle.xcdr_reader.specs.Members.{Pieces, piece_read, if_header, pieces_then, mutable_read}
+use Rattle.reading_steps.specs.Headings.{Told, Next, ended, told}
+use Rattle.xcdr_two_steps.specs.Headers.{told_of, checked_header, header_at}
+use Rattle.xcdr_reader.specs.declared.modes.Mode.TheVariants.{Two}
+use Rattle.xcdr_reader.specs.Members.{Pieces, Reader, named_in, piece_read, heading_read, if_piece, pieces_then, mutable_read}
+use Rattle.xcdr_reader.proofs.SeenIds.{Seen, seen_more}
 
 -- what was read, without the place
 abbrev value_of : {A : Type 0} → Reading A → Result A Fault
@@ -77,9 +80,6 @@ next_content known seen o n s =
 abbrev with_pieces : Members → Pieces → Contents → Result Part Fault
 with_pieces ms ps r = r >>= λ x. Ok (whole_structure ms (ps.0 ++ x.0) (ps.1 || x.1))
 
-abbrev Seen : List ℕ → Pieces → Type 0
-Seen seen ps = (id : ℕ) → has (λ i. i == id) seen ≡ is_some (built_at ps.0 id)
-
 no_more : (ms : Members) (ps : Pieces) → Ok (whole_structure ms ps.0 ps.1) ≡ with_pieces ms ps (Ok ([], false))
 unfolding ◌>>=◌
 no_more ms ps = rw (append-nil ps.0, or_false ps.1) refl
@@ -96,27 +96,25 @@ unfolding ◌>>=◌
 kept ms ps id y (Ok x) = rw (append_assoc ps.0 ((id, y) ∷ []) x.0, or_false ps.1) refl
 kept ms ps id y (Err f) = refl
 
-turned : (a b : ℕ) → (a == b) ≡ (b == a)
-turned a b = elim (cases_Bool (b == a)) [
-  | inl y ↦ eq-eqb a b (sym (eqb-true b a y)) ∙ sym y
-  | inr n ↦ ne_eqb a b (λ z. eqb-false b a n (sym z)) ∙ sym n
-]
-
-some_first : (x : Option Built) (b : Bool) (y : Built) → is_some (first_built x (cond b (Some y) None)) ≡ (b || is_some x)
-some_first None true y = refl
-some_first None false y = refl
-some_first (Some x) true y = refl
-some_first (Some x) false y = refl
-
-seen_more : (seen : List ℕ) (ps : Pieces) (id : ℕ) (y : Part) (u : Bool) → Seen seen ps → Seen (id ∷ seen) (ps.0 ++ (id, y) ∷ [], u)
-seen_more seen ps id y u same j = sym (ap is_some (built_append ps.0 ((id, y) ∷ []) j) ∙ some_first (built_at ps.0 j) (id == j) y.0 ∙ ap (λ b. (id == j) || b) (sym (same j)))
-
 -- the reading of the pieces, without the place, is that of the contents
 abbrev SameThen : Members → Order → ℕ → Type 0
-SameThen ms o n = (seen : List ℕ) (ps : Pieces) (s : Spot) → Seen seen ps → value_of (pieces_then ms n ps o s) ≡ with_pieces ms ps (rest_contents (λ id. read_named o ms id) seen o n s)
+SameThen ms o n = (seen : List ℕ) (ps : Pieces) (s : Spot) → Seen seen ps → value_of (pieces_then Two ms n ps o s) ≡ with_pieces ms ps (rest_contents (λ id. read_named o ms id) seen o n s)
 
 abbrev known_by : Members → Order → ℕ → Option (Spot → Reading Part)
 known_by ms o id = read_named o ms id
+
+-- a content is a region that is used up
+abbrev filled_by : Option (Spot → Reading Part) → Option Reader
+filled_by f = option_map (λ h n s. filling n h s) f
+
+named_two : (o : Order) (ms : Members) (id : ℕ) → named_in Two o ms id ≡ filled_by (read_named o ms id)
+unfolding read_named named_in
+named_two o no_members id = refl
+named_two o (member h t ms) id = by_test (h.id == id) (named_two o ms id)
+  where
+    by_test : (b : Bool) → named_in Two o ms id ≡ filled_by (read_named o ms id) → cond b (Some (λ n s. filling n (λ s1. read o t s1) s)) (named_in Two o ms id) ≡ filled_by (cond b (Some (λ s1. read o t s1)) (read_named o ms id))
+    by_test true same = refl
+    by_test false same = same
 
 abbrev stepped : ℕ → Spot → Part → Reading Part
 stepped n s y = Ok (y, step n s)
@@ -125,7 +123,7 @@ abbrev came_piece : ℕ → Part × Spot → Reading Pieces
 came_piece id y = Ok (((id, y.0) ∷ [], false), y.1)
 
 abbrev next_pieces : Members → Order → ℕ → Pieces → Pieces × Spot → Reading Part
-next_pieces ms o n ps x = pieces_then ms n (ps.0 ++ x.0.0, ps.1 || x.0.1) o x.1
+next_pieces ms o n ps x = pieces_then Two ms n (ps.0 ++ x.0.0, ps.1 || x.0.1) o x.1
 
 abbrev content_kept : ℕ → Part → List (ℕ × Part) × Bool → Contents
 content_kept id y z = Ok ((id, y) ∷ z.0, z.1)
@@ -155,24 +153,35 @@ abbrev piece_told : Told → Spot → Piece
 piece_told k s = record { header = k.at; id = k.id; must = k.must; content = front k.size s }
 
 one_piece : (ms : Members) (o : Order) (n : ℕ) (seen : List ℕ) (ps : Pieces) (k : Told) (s : Spot) (f : Option (Spot → Reading Part)) → Seen seen ps → SameThen ms o n
-    → value_of (piece_read f (is_some (built_at ps.0 k.id)) k s >>= next_pieces ms o n ps) ≡ with_pieces ms ps (content_of f seen (piece_told k s) (λ seen2. rest_contents (known_by ms o) seen2 o n (step k.size s)))
+    → value_of (piece_read (filled_by f) (is_some (built_at ps.0 k.id)) k s >>= next_pieces ms o n ps) ≡ with_pieces ms ps (content_of f seen (piece_told k s) (λ seen2. rest_contents (known_by ms o) seen2 o n (step k.size s)))
 unfolding ◌>>=◌
 one_piece ms o n seen ps k s None same more = more seen (ps.0 ++ [], ps.1 || k.must) (step k.size s) (λ id. same id ∙ ap (λ (l : List (ℕ × Part)). is_some (built_at l id)) (sym (append-nil ps.0))) ∙ passed ms ps k.must (rest_contents (known_by ms o) seen o n (step k.size s))
-one_piece ms o n seen ps k s (Some f) same more = ap (λ (b : Bool). value_of (piece_read (Some f) b k s >>= next_pieces ms o n ps)) (sym (same k.id)) ∙ piece_test ms o n seen ps k s f (has (λ i. i == k.id) seen) same more
+one_piece ms o n seen ps k s (Some f) same more = ap (λ (b : Bool). value_of (piece_read (filled_by (Some f)) b k s >>= next_pieces ms o n ps)) (sym (same k.id)) ∙ piece_test ms o n seen ps k s f (has (λ i. i == k.id) seen) same more
 
-abbrev some_header : Told × Spot → Reading (Option Told)
-some_header h = Ok (Some h.0, h.1)
+-- what is made of what comes next
+abbrev came_by : Pieces → ℕ → Bool
+came_by ps id = is_some (built_at ps.0 id)
 
-abbrev after_head : Members → Order → ℕ → Pieces → Option Told × Spot → Reading Part
-after_head ms o n ps h = if_header h.0 (Ok (whole_structure ms ps.0 ps.1, h.1)) (λ k. piece_read (read_named o ms k.id) (is_some (built_at ps.0 k.id)) k h.1 >>= next_pieces ms o n ps)
+abbrev after_piece : Members → Order → ℕ → Pieces → Option Pieces × Spot → Reading Part
+after_piece ms o n ps x = if_piece x.0 (Ok (whole_structure ms ps.0 ps.1, x.1)) (λ q. pieces_then Two ms n (ps.0 ++ q.0, ps.1 || q.1) o x.1)
 
-one_header : (ms : Members) (o : Order) (n : ℕ) (seen : List ℕ) (ps : Pieces) (r : Reading Told) → Seen seen ps → SameThen ms o n → value_of ((r >>= some_header) >>= after_head ms o n ps) ≡ with_pieces ms ps ((r >>= piece_of) >>= one_content (known_by ms o) seen o n)
+some_piece : (ms : Members) (o : Order) (n : ℕ) (ps : Pieces) (r : Reading Pieces) → ((r >>= λ y. Ok (Some y.0, y.1)) >>= after_piece ms o n ps) ≡ (r >>= next_pieces ms o n ps)
 unfolding ◌>>=◌
-one_header ms o n seen ps (Ok h) same more = one_piece ms o n seen ps h.0 h.1 (read_named o ms h.0.id) same more
+some_piece ms o n ps (Ok y) = refl
+some_piece ms o n ps (Err f) = refl
+
+abbrev some_header : Told × Spot → Reading Next
+some_header h = Ok (told h.0, h.1)
+
+one_header : (ms : Members) (o : Order) (n : ℕ) (seen : List ℕ) (ps : Pieces) (r : Reading Told) → Seen seen ps → SameThen ms o n → value_of (((r >>= some_header) >>= λ x. heading_read Two ms (came_by ps) x.0 o x.1) >>= after_piece ms o n ps) ≡ with_pieces ms ps ((r >>= piece_of) >>= one_content (known_by ms o) seen o n)
+unfolding ◌>>=◌
+one_header ms o n seen ps (Ok h) same more =
+    ap (λ (r : Reading Part). value_of r) (some_piece ms o n ps (piece_read (named_in Two o ms h.0.id) (came_by ps h.0.id) h.0 h.1) ∙ ap (λ (f : Option Reader). piece_read f (came_by ps h.0.id) h.0 h.1 >>= next_pieces ms o n ps) (named_two o ms h.0.id))
+    ∙ one_piece ms o n seen ps h.0 h.1 (read_named o ms h.0.id) same more
 one_header ms o n seen ps (Err f) same more = refl
 
 ends_or : (ms : Members) (o : Order) (n : ℕ) (seen : List ℕ) (ps : Pieces) (s : Spot) (b : Bool) → Seen seen ps → SameThen ms o n
-    → value_of (cond {A = Reading (Option Told)} b (Ok (None, s)) (header_at o s >>= some_header) >>= after_head ms o n ps) ≡ with_pieces ms ps (cond {A = Contents} b (Ok ([], false)) (piece_at o s >>= one_content (known_by ms o) seen o n))
+    → value_of ((cond {A = Reading Next} b (Ok (ended, s)) (header_at o s >>= some_header) >>= λ x. heading_read Two ms (came_by ps) x.0 o x.1) >>= after_piece ms o n ps) ≡ with_pieces ms ps (cond {A = Contents} b (Ok ([], false)) (piece_at o s >>= one_content (known_by ms o) seen o n))
 unfolding ◌>>=◌
 ends_or ms o n seen ps s true same more = no_more ms ps
 ends_or ms o n seen ps s false same more = one_header ms o n seen ps (header_at o s) same more ∙ ap (λ (r : Reading Piece). with_pieces ms ps (r >>= one_content (known_by ms o) seen o n)) (sym (piece_is o s))
@@ -181,7 +190,7 @@ no_fuel : (ms : Members) (o : Order) (seen : List ℕ) (ps : Pieces) (s : Spot) 
 unfolding pieces_at contents ◌>>=◌
 no_fuel ms o seen ps s = no_more ms ps
 
-pub pieces_are : (ms : Members) (o : Order) (n : ℕ) (seen : List ℕ) (ps : Pieces) (s : Spot) → Seen seen ps → value_of (pieces_then ms n ps o s) ≡ with_pieces ms ps (rest_contents (λ id. read_named o ms id) seen o n s)
+pub pieces_are : (ms : Members) (o : Order) (n : ℕ) (seen : List ℕ) (ps : Pieces) (s : Spot) → Seen seen ps → value_of (pieces_then Two ms n ps o s) ≡ with_pieces ms ps (rest_contents (λ id. read_named o ms id) seen o n s)
 unfolding pieces_then
 pieces_are ms o zero seen ps s same = no_fuel ms o seen ps s
 pieces_are ms o (suc n) seen ps s same = ends_or ms o n seen ps s (ends s) same (pieces_are ms o n) ∙ ap (with_pieces ms ps) (sym (next_content (λ id. read_named o ms id) seen o n s))
@@ -205,8 +214,8 @@ unfolding ◌>>=◌
 members_value ms s (Ok x) = refl
 members_value ms s (Err f) = refl
 
-pub mutable_is : (ms : Members) (o : Order) (n : ℕ) (s : Spot) → passing n (λ s1. done (λ r. whole_structure ms r.0 r.1) (members_at o (λ id. read_named o ms id) s1)) s ≡ passing n (mutable_read ms o) s
+pub mutable_is : (ms : Members) (o : Order) (n : ℕ) (s : Spot) → passing n (λ s1. done (λ r. whole_structure ms r.0 r.1) (members_at o (λ id. read_named o ms id) s1)) s ≡ passing n (mutable_read Two ms o) s
 mutable_is ms o n s =
     let f = front n s in
-    passing_same n (λ s1. done (λ r. whole_structure ms r.0 r.1) (members_at o (λ id. read_named o ms id) s1)) (mutable_read ms o) s
+    passing_same n (λ s1. done (λ r. whole_structure ms r.0 r.1) (members_at o (λ id. read_named o ms id) s1)) (mutable_read Two ms o) s
     (members_value ms f (rest_contents (λ id. read_named o ms id) [] o (length f.rest) f) ∙ sym (pieces_are ms o (length f.rest) [] ([], false) f (λ id. refl)))

@@ -11,6 +11,8 @@ use Rattle.xcdr_model.specs.Reading.{Spot, Reading, ◌>>=◌, octets_at}
 use Rattle.wire_cursor.specs.Standing.{Standing, room, pad_of}
 use Rattle.settled_parts.specs.Gathering.{Gathered}
 use Rattle.settled_parts.specs.Items.{and_item}
+use Rattle.xcdr_reader.specs.declared.modes.Mode.{Mode}
+use Rattle.xcdr_reader.specs.Modes.{most}
 
 -- the number that these octets are
 abbrev pub number_part : Order → Primitive → List ℕ → Part
@@ -26,9 +28,9 @@ abbrev pub block_read : ℕ → Try → Val → Primitive → ℕ → Gathered V
 block_read bound tc d p m g o s = octets_at (m * size p) s >>= λ ys. Ok (and_numbers bound tc d o p m g ys.0, ys.1)
 
 -- at most so many numbers, which are all in the region and begin at an aligned place
-pub record IsBlock (p : Primitive) (most : ℕ) (a : Standing) (m : ℕ) : Type 0 where
+pub record IsBlock (mode : Mode) (p : Primitive) (limit : ℕ) (a : Standing) (m : ℕ) : Type 0 where
   pub plain : 0 < m → is_boolean p ≡ false
-  pub aligned : 0 < m → pad_of (min (size p) 4) a ≡ 0
+  pub aligned : 0 < m → pad_of (min (size p) (most mode)) a ≡ 0
   pub fits : m * size p ≤ room a
-  pub within : m ≤ most
+  pub within : m ≤ limit
   pub small : m * size p ≤ 512

@@ -1,3 +1,5 @@
+pub mod Modes
+pub mod Comings
 pub mod Parts
 pub mod Blocks
 pub mod Members

@@ -14,6 +14,7 @@ ghost use Rattle.xcdr_reader.specs.Blocks.{IsBlock, number_part, and_numbers, bl
 ghost use Rattle.xcdr_reader.specs.Parts.{items_read};
 
 use crate::leaves::read_prim_part;
+use crate::modes::Mode;
 use settled_parts::{Items, Part};
 use std::alloc::Global;
 use type_trees::Elem;
@@ -39,15 +40,15 @@ fn numbers_in(left: u64, size: u32, most: u64) -> u64
 
 // How many numbers can be read at once from the cursor's place: none where it is not aligned for them, nor for booleans, of which each
 // has to be looked at.
-fn block_size<C: Cursor>(cursor: &mut C, prim: Prim, most: u64) -> u64
+fn block_size<C: Cursor>(cursor: &mut C, mode: Mode, prim: Prim, most: u64) -> u64
     ensures stayed { Stayed (C.state cursor.old) (C.state cursor.new) }
-    ensures block { IsBlock prim most (C.state cursor.old) result }
+    ensures block { IsBlock mode prim most (C.state cursor.old) result }
 {
     let origin = cursor.restart();
     cursor.resume(origin);
     let place = cursor.place();
     let size = prim_size(prim);
-    if is_boolean(prim) || (place - origin) % u64::from(size.min(4)) != 0 {
+    if is_boolean(prim) || (place - origin) % u64::from(size.min(mode.most())) != 0 {
         return 0;
     }
     numbers_in(cursor.region_end() - place, size, most)
@@ -145,19 +146,20 @@ pub(crate) fn read_numbers<C: Cursor>(
     alloc: Global,
     elem: &Elem,
     bound: u32,
+    mode: Mode,
     prim: Prim,
     count: u64,
     cursor: &mut C,
 ) -> Result<Part, DecodeFault>
     requires { type_shape elem.now.ty ≡ model.prim prim }
-    ensures { Decodes part_of (items_read bound elem.now.tc (type_shape elem.now.ty) (Some count)) (C.state cursor.old) (C.state cursor.new) result }
+    ensures { Decodes part_of (items_read mode bound elem.now.tc (type_shape elem.now.ty) (Some count)) (C.state cursor.old) (C.state cursor.new) result }
 {
     let mut items = Items::new(alloc);
     let mut at = 0;
     while at < count {
-        let many = block_size(cursor, prim, count - at);
+        let many = block_size(cursor, mode, prim, count - at);
         if many == 0 {
-            let part = read_prim_part(cursor, prim)?;
+            let part = read_prim_part(cursor, mode, prim)?;
             items.take(alloc, bound, elem, part)?;
             at += 1;
             continue;

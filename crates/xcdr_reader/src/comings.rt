@@ -25,11 +25,11 @@ fn read_present<C: Cursor>(cursor: &mut C) -> Result<Coming, DecodeFault>
     ensures fits { IfOk result (Fits (C.state cursor.new)) }
     ensures value { Decodes (λ x. x) presence_read (C.state cursor.old) (C.state cursor.new) result }
 {
-    if read_presence(cursor)? {
-        Ok(Coming::Here)
-    } else {
-        Ok(Coming::Absent)
+    let there = read_presence(cursor)?;
+    if there {
+        return Ok(Coming::Here);
     }
+    Ok(Coming::Absent)
 }
 
 // Reads the header of an optional member.
@@ -37,17 +37,14 @@ fn read_header<C: Cursor>(cursor: &mut C, id: u32) -> Result<Coming, DecodeFault
     ensures fits { IfOk result (Fits (C.state cursor.new)) }
     ensures value { Decodes (λ x. x) (own_read id) (C.state cursor.old) (C.state cursor.new) result }
 {
-    match read_own(cursor, id)? {
-        0 => Ok(Coming::Absent),
-        length => Ok(Coming::Content(length)),
+    let length = read_own(cursor, id)?;
+    if length == 0 {
+        return Ok(Coming::Absent);
     }
+    Ok(Coming::Content(length))
 }
 
-fn read_optional<C: Cursor>(
-    cursor: &mut C,
-    mode: Mode,
-    id: u32,
-) -> Result<Coming, DecodeFault>
+fn read_optional<C: Cursor>(cursor: &mut C, mode: Mode, id: u32) -> Result<Coming, DecodeFault>
     ensures fits { IfOk result (Fits (C.state cursor.new)) }
     ensures value { Decodes (λ x. x) (optional_read mode id) (C.state cursor.old) (C.state cursor.new) result }
 {

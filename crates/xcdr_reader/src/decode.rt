@@ -1,27 +1,33 @@
 // Values of octets.
-ghost use Rattle.std.specs.Prelude.{◌≡◌, ◌≤◌, ℕ, ℤ, true, false, length, IfOk};
+ghost use Rattle.std.specs.Prelude.{◌≡◌, ◌≤◌, ℕ, ℤ, true, false, length, IfOk, IfSome};
+ghost use Rattle.std.specs.Option.{option_map};
 ghost use Rattle.type_trees.specs.declared.types.UnionType.{out-UnionType};
 ghost use Rattle.type_trees.specs.View.{struct_tree, union_tree};
 ghost use Rattle.type_trees.specs.Bridge.{shape, type_shape, members_shape, member_head, case_head, cases_shape};
 ghost use Rattle.xcdr_model.specs.Premises.{sound, distinct_members, sound_members, sound_cases};
-ghost use Rattle.xcdr_model.specs.Xcdr2Reading.{read, read_named};
+ghost use Rattle.xcdr_model.specs.Projection.{whole_structure};
 ghost use Rattle.xcdr_model.specs.Reading.{filling};
+ghost use Rattle.xcdr_model.specs.Xcdr2Reading.{read};
 ghost use Rattle.settled_parts.specs.Members.{by_member, slots_of};
 ghost use Rattle.settled_parts.specs.Parts.{part_of};
 ghost use Rattle.settled_parts.specs.Unions.{case_of};
 ghost use Rattle.wire_cursor.specs.Decoding.{Decodes};
 ghost use Rattle.wire_cursor.specs.Standing.{room};
-ghost use Rattle.xcdr_two_steps.specs.Headers.{header_view};
-ghost use Rattle.xcdr_reader.specs.Members.{mutable_read, piece_read, piece_of, IsIndexed, IsNew, IsWithin, has_come};
-ghost use Rattle.xcdr_reader.specs.Parts.{items_read, entries_read, case_read, union_read, body_read, whole_read};
-ghost use Rattle.xcdr_reader.specs.Insides.{inside, members_read};
-ghost use Rattle.xcdr_reader.specs.Parts.{slot_more};
+ghost use Rattle.reading_steps.specs.Headings.{header_view};
+ghost use Rattle.xcdr_reader.specs.Modes.{read_in, content_in, parameter_content, next_in};
+ghost use Rattle.xcdr_reader.specs.Members.{Pieces, Holds, no_more, mutable_read, next_piece, piece_read, named_in, piece_of, IsIndexed, IsNew, IsWithin, has_come};
+ghost use Rattle.xcdr_reader.specs.Parts.{items_read, entries_read, case_in, union_read, body_read, whole_read, slot_more};
+ghost use Rattle.xcdr_reader.specs.Insides.{inside, members_read, cut_read, appended_read};
 
 use crate::blocks::read_numbers;
+use crate::comings::{Coming, read_coming};
+use crate::headings::{next_heading, pass_rest};
 use crate::known::{Known, Piece};
 use crate::leaves::{
-    read_disc, read_enum_part, read_mask_part, read_prim_part, read_text_part, short,
+    read_disc, read_enum_part, read_mask_part, read_prim_part, read_text_part, short, spare_of,
 };
+use crate::modes::Mode;
+use reading_steps::{Choice, Header, Heading, array_count, choose, has_ended, read_count};
 use settled_parts::{
     Entries, Items, Part, SettledCase, Slots, fits_disc, settle_case, slot_from, whole_union,
 };
@@ -31,10 +37,7 @@ use wire_cursor::{
     Cursor, DecodeFault, Frame, Framing, close_frame, enter_part, open_frame, read_number,
     read_pass,
 };
-use xcdr_two_steps::{
-    Choice, Header, array_count, choose, framing_of, has_ended, next_header, read_count,
-    read_whether,
-};
+use xcdr_one_steps::{close_content, open_content};
 use xt_shapes::Ext;
 
 /// Reads a value of this type in the cursor's region.
@@ -42,13 +45,14 @@ use xt_shapes::Ext;
 pub(crate) fn read_part<C: Cursor>(
     alloc: Global,
     ty: &XType,
+    mode: Mode,
     cursor: &mut C,
 ) -> Result<Part, DecodeFault>
     requires { sound (type_shape ty.now) ≡ true }
-    ensures { Decodes part_of (λ o s. read o (type_shape ty.now) s) (C.state cursor.old) (C.state cursor.new) result }
+    ensures { Decodes part_of (λ o s. read_in mode o (type_shape ty.now) s) (C.state cursor.old) (C.state cursor.new) result }
 {
-    let frame = open_frame(cursor, framing_of(ty))?;
-    let part = read_inside(alloc, ty, cursor)?;
+    let frame = open_frame(cursor, mode.framing(ty))?;
+    let part = read_inside(alloc, ty, mode, cursor)?;
     close_frame(cursor, frame)?;
     Ok(part)
 }
@@ -56,24 +60,29 @@ pub(crate) fn read_part<C: Cursor>(
 // Reads what is inside the value's own region, where it has one.
 #[cycle(decode)]
 #[tactic(auto, using(type_trees::proofs::Views::tree_rules))]
-fn read_inside<C: Cursor>(alloc: Global, ty: &XType, cursor: &mut C) -> Result<Part, DecodeFault>
+fn read_inside<C: Cursor>(
+    alloc: Global,
+    ty: &XType,
+    mode: Mode,
+    cursor: &mut C,
+) -> Result<Part, DecodeFault>
     requires { sound (type_shape ty.now) ≡ true }
-    ensures { Decodes part_of (inside (type_shape ty.now)) (C.state cursor.old) (C.state cursor.new) result }
+    ensures { Decodes part_of (inside mode (type_shape ty.now)) (C.state cursor.old) (C.state cursor.new) result }
 {
     match ty {
-        XType::Prim(prim) => read_prim_part(cursor, *prim),
-        XType::Str(bound) => read_text_part(alloc, cursor, *bound),
-        XType::Enum(kind) => read_enum_part(cursor, kind),
-        XType::Mask(kind) => read_mask_part(cursor, kind),
-        XType::Seq(kind) => read_items(alloc, &kind.elem, kind.bound, None, cursor),
+        XType::Prim(prim) => read_prim_part(cursor, mode, *prim),
+        XType::Str(bound) => read_text_part(alloc, cursor, mode, *bound),
+        XType::Enum(kind) => read_enum_part(cursor, mode, kind),
+        XType::Mask(kind) => read_mask_part(cursor, mode, kind),
+        XType::Seq(kind) => read_items(alloc, &kind.elem, kind.bound, None, mode.inner(), cursor),
         XType::Array(kind) => {
             let count = array_count(kind.dims.as_slice())?;
-            read_items(alloc, &kind.elem, 0, Some(count), cursor)
+            read_items(alloc, &kind.elem, 0, Some(count), mode.inner(), cursor)
         }
-        XType::Map(kind) => read_entries(alloc, kind, cursor),
-        XType::Struct(kind) => read_structure(alloc, kind, cursor),
-        XType::Union(kind) => read_union(alloc, kind, cursor),
-        XType::Alias(kind) => read_inside(alloc, &kind.ty, cursor),
+        XType::Map(kind) => read_entries(alloc, kind, mode.inner(), cursor),
+        XType::Struct(kind) => read_structure(alloc, kind, mode, cursor),
+        XType::Union(kind) => read_union(alloc, kind, mode, cursor),
+        XType::Alias(kind) => read_inside(alloc, &kind.ty, mode, cursor),
     }
 }
 
@@ -83,18 +92,19 @@ fn read_items<C: Cursor>(
     elem: &Elem,
     bound: u32,
     given: Option<u64>,
+    mode: Mode,
     cursor: &mut C,
 ) -> Result<Part, DecodeFault>
     requires { sound (type_shape elem.now.ty) ≡ true }
-    ensures { Decodes part_of (items_read bound elem.now.tc (type_shape elem.now.ty) given) (C.state cursor.old) (C.state cursor.new) result }
+    ensures { Decodes part_of (items_read mode bound elem.now.tc (type_shape elem.now.ty) given) (C.state cursor.old) (C.state cursor.new) result }
 {
     let count = read_count(cursor, given)?;
     if let Some(prim) = as_prim(&elem.ty) {
-        return read_numbers(alloc, elem, bound, prim, count, cursor);
+        return read_numbers(alloc, elem, bound, mode, prim, count, cursor);
     }
     let mut items = Items::new(alloc);
     for at in 0..count {
-        let part = read_part(alloc, &elem.ty, cursor)?;
+        let part = read_part(alloc, &elem.ty, mode, cursor)?;
         items.take(alloc, bound, elem, part)?;
     }
     Ok(items.part())
@@ -104,17 +114,18 @@ fn read_items<C: Cursor>(
 fn read_entries<C: Cursor>(
     alloc: Global,
     kind: &MapType,
+    mode: Mode,
     cursor: &mut C,
 ) -> Result<Part, DecodeFault>
     requires key { sound (type_shape kind.now.key.ty) ≡ true }
     requires value { sound (type_shape kind.now.value.ty) ≡ true }
-    ensures { Decodes part_of (entries_read kind.now.bound kind.now.key.tc (type_shape kind.now.key.ty) kind.now.value.tc (type_shape kind.now.value.ty)) (C.state cursor.old) (C.state cursor.new) result }
+    ensures { Decodes part_of (entries_read mode kind.now.bound kind.now.key.tc (type_shape kind.now.key.ty) kind.now.value.tc (type_shape kind.now.value.ty)) (C.state cursor.old) (C.state cursor.new) result }
 {
     let count = read_number(cursor, 4, 4)?;
     let mut entries = Entries::new(alloc);
     for at in 0..count {
-        let key = read_part(alloc, &kind.key.ty, cursor)?;
-        let value = read_part(alloc, &kind.value.ty, cursor)?;
+        let key = read_part(alloc, &kind.key.ty, mode, cursor)?;
+        let value = read_part(alloc, &kind.value.ty, mode, cursor)?;
         entries.take(alloc, kind, key, value)?;
     }
     Ok(entries.part(alloc)?)
@@ -124,16 +135,53 @@ fn read_entries<C: Cursor>(
 fn read_structure<C: Cursor>(
     alloc: Global,
     kind: &StructType,
+    mode: Mode,
     cursor: &mut C,
 ) -> Result<Part, DecodeFault>
     requires { sound (shape (struct_tree kind.now)) ≡ true }
-    ensures { Decodes part_of (inside (shape (struct_tree kind.now))) (C.state cursor.old) (C.state cursor.new) result }
+    ensures { Decodes part_of (inside mode (shape (struct_tree kind.now))) (C.state cursor.old) (C.state cursor.new) result }
 {
+    let members = kind.members.as_slice();
     match kind.ext {
-        Ext::Final => read_members(alloc, kind.members.as_slice(), false, cursor),
-        Ext::Appendable => read_members(alloc, kind.members.as_slice(), true, cursor),
-        Ext::Mutable => read_pieces(alloc, kind.members.as_slice(), cursor),
+        Ext::Final => read_members(alloc, members, false, mode, cursor),
+        Ext::Appendable => read_appended(alloc, members, mode, cursor),
+        Ext::Mutable => read_pieces(alloc, members, mode, cursor),
     }
+}
+
+// Reads the members of an APPENDABLE structure.
+#[cycle(decode)]
+fn read_appended<C: Cursor>(
+    alloc: Global,
+    members: &[Member],
+    mode: Mode,
+    cursor: &mut C,
+) -> Result<Part, DecodeFault>
+    requires apart { distinct_members (members_shape members.now) ≡ true }
+    requires sound { sound_members (members_shape members.now) ≡ true }
+    ensures { Decodes part_of (appended_read mode (members_shape members.now)) (C.state cursor.old) (C.state cursor.new) result }
+{
+    if mode.may_end() {
+        return read_cut(alloc, members, mode, cursor);
+    }
+    read_members(alloc, members, false, mode, cursor)
+}
+
+// Reads members of a region that may end before the last, and has what is left of it.
+#[cycle(decode)]
+fn read_cut<C: Cursor>(
+    alloc: Global,
+    members: &[Member],
+    mode: Mode,
+    cursor: &mut C,
+) -> Result<Part, DecodeFault>
+    requires apart { distinct_members (members_shape members.now) ≡ true }
+    requires sound { sound_members (members_shape members.now) ≡ true }
+    ensures { Decodes part_of (cut_read mode (members_shape members.now)) (C.state cursor.old) (C.state cursor.new) result }
+{
+    let part = read_members(alloc, members, true, mode, cursor)?;
+    pass_rest(cursor, mode)?;
+    Ok(part)
 }
 
 #[cycle(decode)]
@@ -141,15 +189,16 @@ fn read_members<C: Cursor>(
     alloc: Global,
     members: &[Member],
     cut: bool,
+    mode: Mode,
     cursor: &mut C,
 ) -> Result<Part, DecodeFault>
     requires apart { distinct_members (members_shape members.now) ≡ true }
     requires sound { sound_members (members_shape members.now) ≡ true }
-    ensures { Decodes part_of (members_read cut (members_shape members.now)) (C.state cursor.old) (C.state cursor.new) result }
+    ensures { Decodes part_of (members_read mode cut (members_shape members.now)) (C.state cursor.old) (C.state cursor.new) result }
 {
     let mut slots = Slots::new(alloc);
     for member in members {
-        read_slot(alloc, member, cut, &mut slots, cursor)?;
+        read_slot(alloc, member, cut, mode, &mut slots, cursor)?;
     }
     Ok(slots.part())
 }
@@ -161,21 +210,30 @@ fn read_slot<C: Cursor>(
     alloc: Global,
     member: &Member,
     cut: bool,
+    mode: Mode,
     slots: &mut Slots,
     cursor: &mut C,
 ) -> Result<(), DecodeFault>
     requires { sound (type_shape member.now.ty) ≡ true }
-    ensures { Decodes (λ u. slots_of slots.new) (slot_more cut (member_head member.now) (type_shape member.now.ty) (slots_of slots.old)) (C.state cursor.old) (C.state cursor.new) result }
+    ensures { Decodes (λ u. slots_of slots.new) (slot_more mode cut (member_head member.now) (type_shape member.now.ty) (slots_of slots.old)) (C.state cursor.old) (C.state cursor.new) result }
 {
-    let there = read_whether(cursor, cut, member.optional)?;
-    if !there {
-        let settled = slot_from(alloc, member, None)?;
-        slots.take(settled)?;
-        return Ok(());
+    match read_coming(cursor, mode, cut, member.optional, member.id)? {
+        Coming::Absent => {
+            let settled = slot_from(alloc, member, None)?;
+            slots.take(settled)?;
+            Ok(())
+        }
+        Coming::Here => {
+            let part = read_part(alloc, &member.ty, mode.inner(), cursor)?;
+            slots.take_part(alloc, member, part)?;
+            Ok(())
+        }
+        Coming::Content(length) => {
+            let part = read_content(alloc, &member.ty, length, mode, cursor)?;
+            slots.take_part(alloc, member, part)?;
+            Ok(())
+        }
     }
-    let part = read_part(alloc, &member.ty, cursor)?;
-    slots.take_part(alloc, member, part)?;
-    Ok(())
 }
 
 #[cycle(decode)]
@@ -183,21 +241,69 @@ fn read_slot<C: Cursor>(
 fn read_pieces<C: Cursor>(
     alloc: Global,
     members: &[Member],
+    mode: Mode,
     cursor: &mut C,
 ) -> Result<Part, DecodeFault>
     requires apart { distinct_members (members_shape members.now) ≡ true }
     requires sound { sound_members (members_shape members.now) ≡ true }
-    ensures { Decodes part_of (mutable_read (members_shape members.now)) (C.state cursor.old) (C.state cursor.new) result }
+    ensures { Decodes part_of (mutable_read mode (members_shape members.now)) (C.state cursor.old) (C.state cursor.new) result }
 {
     let mut known = Known::new(alloc, members)?;
     for turn in 0..cursor.region_end() - cursor.place() {
-        let Some(header) = next_header(cursor)? else {
+        let Some(piece) = read_next(alloc, members, &known, mode, cursor)? else {
             return Ok(known.part(alloc, members)?);
         };
-        let piece = read_piece(alloc, members, header, &known, cursor)?;
         known.keep(alloc, members, piece)?;
     }
-    Ok(known.part(alloc, members)?)
+    end_pieces(alloc, members, known, mode, cursor)
+}
+
+// The structure where all turns are taken: XCDR2's region has ended, and XCDR1's list has no end.
+fn end_pieces<C: Cursor>(
+    alloc: Global,
+    members: &[Member],
+    known: Known,
+    mode: Mode,
+    cursor: &C,
+) -> Result<Part, DecodeFault>
+    requires { length (by_member known.slots).1 ≡ length members.now }
+    ensures { (ps : Pieces) → Holds (members_shape members.now) known ps → Decodes part_of (λ o s. no_more mode (whole_structure (members_shape members.now) ps.0 ps.1) s) (C.state cursor.now) (C.state cursor.now) result }
+{
+    match mode {
+        Mode::Two => Ok(known.part(alloc, members)?),
+        Mode::Inner => Err(short(cursor.place())),
+        Mode::Tail => Err(short(cursor.place())),
+    }
+}
+
+// What comes next among the members of a mutable structure: none at their end.
+#[cycle(decode)]
+fn read_next<C: Cursor>(
+    alloc: Global,
+    members: &[Member],
+    known: &Known,
+    mode: Mode,
+    cursor: &mut C,
+) -> Result<Option<Piece>, DecodeFault>
+    requires apart { distinct_members (members_shape members.now) ≡ true }
+    requires sound { sound_members (members_shape members.now) ≡ true }
+    requires count { length (by_member known.now.slots).1 ≡ length members.now }
+    requires indexed { IsIndexed (members_shape members.now) known.now }
+    ensures new { IfOk result (λ x. IfSome x (IsNew (members_shape members.now) known.now)) }
+    ensures within { IfOk result (λ x. IfSome x (IsWithin (length members.now))) }
+    ensures value { Decodes (option_map piece_of) (next_piece mode (members_shape members.now) (has_come (members_shape members.now) known.now)) (C.state cursor.old) (C.state cursor.new) result }
+{
+    match next_heading(cursor, mode)? {
+        Heading::End => Ok(None),
+        Heading::Ignored(length) => {
+            read_pass(cursor, length)?;
+            Ok(Some(Piece::Unknown(false)))
+        }
+        Heading::Member(header) => {
+            let piece = read_piece(alloc, members, header, known, mode, cursor)?;
+            Ok(Some(piece))
+        }
+    }
 }
 
 #[cycle(decode)]
@@ -207,6 +313,7 @@ fn read_piece<C: Cursor>(
     members: &[Member],
     header: Header,
     known: &Known,
+    mode: Mode,
     cursor: &mut C,
 ) -> Result<Piece, DecodeFault>
     requires apart { distinct_members (members_shape members.now) ≡ true }
@@ -217,7 +324,7 @@ fn read_piece<C: Cursor>(
     requires at { (C.state cursor.old).origin ≤ header.at }
     ensures new { IfOk result (IsNew (members_shape members.now) known.now) }
     ensures within { IfOk result (IsWithin (length members.now)) }
-    ensures value { Decodes piece_of (λ o s. piece_read (read_named o (members_shape members.now) header.id) (has_come (members_shape members.now) known.now header.id) (header_view (C.state cursor.old) header) s) (C.state cursor.old) (C.state cursor.new) result }
+    ensures value { Decodes piece_of (λ o s. piece_read (named_in mode o (members_shape members.now) header.id) (has_come (members_shape members.now) known.now header.id) (header_view (C.state cursor.old) header) s) (C.state cursor.old) (C.state cursor.new) result }
 {
     match known.place(members, header)? {
         None => {
@@ -225,7 +332,7 @@ fn read_piece<C: Cursor>(
             Ok(Piece::Unknown(header.must))
         }
         Some(at) => {
-            let part = read_member(alloc, &members[at], header.length, cursor)?;
+            let part = read_member(alloc, &members[at], header.length, mode, cursor)?;
             Ok(Piece::Came(at, header.id, part))
         }
     }
@@ -238,18 +345,39 @@ fn read_member<C: Cursor>(
     alloc: Global,
     member: &Member,
     length: u64,
+    mode: Mode,
     cursor: &mut C,
 ) -> Result<Part, DecodeFault>
     requires sound { sound (type_shape member.now.ty) ≡ true }
     requires room { length ≤ room (C.state cursor.old) }
-    ensures { Decodes part_of (λ o s. filling length (λ s1. read o (type_shape member.now.ty) s1) s) (C.state cursor.old) (C.state cursor.new) result }
+    ensures { Decodes part_of (content_in mode length (type_shape member.now.ty)) (C.state cursor.old) (C.state cursor.new) result }
 {
-    read_content(alloc, &member.ty, length, cursor)
+    read_content(alloc, &member.ty, length, mode, cursor)
+}
+
+// Reads the content of `length` octets that a member's header counts.
+#[cycle(decode)]
+fn read_content<C: Cursor>(
+    alloc: Global,
+    ty: &XType,
+    length: u64,
+    mode: Mode,
+    cursor: &mut C,
+) -> Result<Part, DecodeFault>
+    requires sound { sound (type_shape ty.now) ≡ true }
+    requires room { length ≤ room (C.state cursor.old) }
+    ensures { Decodes part_of (content_in mode length (type_shape ty.now)) (C.state cursor.old) (C.state cursor.new) result }
+{
+    match mode {
+        Mode::Two => read_filled(alloc, ty, length, cursor),
+        Mode::Inner => read_parameter_content(alloc, ty, length, cursor),
+        Mode::Tail => read_parameter_content(alloc, ty, length, cursor),
+    }
 }
 
 // Reads a value in a region of `length` octets, which must be used up.
 #[cycle(decode)]
-fn read_content<C: Cursor>(
+fn read_filled<C: Cursor>(
     alloc: Global,
     ty: &XType,
     length: u64,
@@ -260,7 +388,7 @@ fn read_content<C: Cursor>(
     ensures { Decodes part_of (λ o s. filling length (λ s1. read o (type_shape ty.now) s1) s) (C.state cursor.old) (C.state cursor.new) result }
 {
     let outer = enter_part(cursor, length)?;
-    let part = read_part(alloc, ty, cursor)?;
+    let part = read_part(alloc, ty, Mode::Two, cursor)?;
     close_frame(
         cursor,
         Frame {
@@ -271,18 +399,37 @@ fn read_content<C: Cursor>(
     Ok(part)
 }
 
+// Reads a value in a region of `length` octets with an origin of its own.
+#[cycle(decode)]
+fn read_parameter_content<C: Cursor>(
+    alloc: Global,
+    ty: &XType,
+    length: u64,
+    cursor: &mut C,
+) -> Result<Part, DecodeFault>
+    requires sound { sound (type_shape ty.now) ≡ true }
+    requires room { length ≤ room (C.state cursor.old) }
+    ensures { Decodes part_of (parameter_content length (type_shape ty.now)) (C.state cursor.old) (C.state cursor.new) result }
+{
+    let content = open_content(cursor, length)?;
+    let part = read_part(alloc, ty, Mode::Tail, cursor)?;
+    close_content(cursor, content, spare_of(ty))?;
+    Ok(part)
+}
+
 #[cycle(decode)]
 fn read_union<C: Cursor>(
     alloc: Global,
     kind: &UnionType,
+    mode: Mode,
     cursor: &mut C,
 ) -> Result<Part, DecodeFault>
     requires { sound (shape (union_tree kind.now)) ≡ true }
-    ensures { Decodes part_of (inside (shape (union_tree kind.now))) (C.state cursor.old) (C.state cursor.new) result }
+    ensures { Decodes part_of (inside mode (shape (union_tree kind.now))) (C.state cursor.old) (C.state cursor.new) result }
 {
     match kind.ext {
-        Ext::Final => read_selected(alloc, kind, false, cursor),
-        Ext::Appendable => read_selected(alloc, kind, true, cursor),
+        Ext::Final => read_selected(alloc, kind, false, mode, cursor),
+        Ext::Appendable => read_selected(alloc, kind, mode.may_end(), mode, cursor),
         Ext::Mutable => Err(short(cursor.place())),
     }
 }
@@ -292,13 +439,14 @@ fn read_selected<C: Cursor>(
     alloc: Global,
     kind: &UnionType,
     filled: bool,
+    mode: Mode,
     cursor: &mut C,
 ) -> Result<Part, DecodeFault>
     requires { sound_cases (cases_shape (out-UnionType kind.now).cases) ≡ true }
-    ensures { Decodes part_of (union_read filled (type_shape (out-UnionType kind.now).disc) (cases_shape (out-UnionType kind.now).cases)) (C.state cursor.old) (C.state cursor.new) result }
+    ensures { Decodes part_of (union_read mode filled (type_shape (out-UnionType kind.now).disc) (cases_shape (out-UnionType kind.now).cases)) (C.state cursor.old) (C.state cursor.new) result }
 {
-    let number = read_disc(cursor, &kind.disc)?;
-    let case = read_case(alloc, kind.cases.as_slice(), number, filled, cursor)?;
+    let number = read_disc(cursor, mode, &kind.disc)?;
+    let case = read_case(alloc, kind.cases.as_slice(), number, filled, mode, cursor)?;
     let fits = fits_disc(&kind.disc, number);
     Ok(whole_union(alloc, fits, number, case)?)
 }
@@ -310,16 +458,20 @@ fn read_case<C: Cursor>(
     cases: &[Case],
     number: i128,
     filled: bool,
+    mode: Mode,
     cursor: &mut C,
 ) -> Result<SettledCase, DecodeFault>
     requires { sound_cases (cases_shape cases.now) ≡ true }
-    ensures { Decodes case_of (case_read filled (cases_shape cases.now) number) (C.state cursor.old) (C.state cursor.new) result }
+    ensures { Decodes case_of (case_in mode filled (cases_shape cases.now) number) (C.state cursor.old) (C.state cursor.new) result }
 {
     match choose(cases, number, filled, has_ended(cursor, true)) {
         Choice::NoCase => Ok(SettledCase::NoCase),
-        Choice::OneSided => Ok(SettledCase::OneSided),
+        Choice::OneSided => {
+            pass_rest(cursor, mode)?;
+            Ok(SettledCase::OneSided)
+        }
         Choice::Missing => Err(short(cursor.place())),
-        Choice::Case(at) => read_body(alloc, &cases[at], filled, cursor),
+        Choice::Case(at) => read_body(alloc, &cases[at], filled, mode, cursor),
     }
 }
 
@@ -328,29 +480,31 @@ fn read_body<C: Cursor>(
     alloc: Global,
     case: &Case,
     filled: bool,
+    mode: Mode,
     cursor: &mut C,
 ) -> Result<SettledCase, DecodeFault>
     requires { sound (type_shape case.now.ty) ≡ true }
-    ensures { Decodes case_of (body_read filled (case_head case.now) (type_shape case.now.ty)) (C.state cursor.old) (C.state cursor.new) result }
+    ensures { Decodes case_of (body_read mode filled (case_head case.now) (type_shape case.now.ty)) (C.state cursor.old) (C.state cursor.new) result }
 {
-    let part = read_whole(alloc, &case.ty, filled, cursor)?;
+    let part = read_whole(alloc, &case.ty, filled, mode, cursor)?;
     Ok(settle_case(alloc, case, part)?)
 }
 
-// Reads a value, which has all that is left of the region where it is `filled`.
+// Reads a case's value, which has all that is left of the region where it is `filled`.
 #[cycle(decode)]
 fn read_whole<C: Cursor>(
     alloc: Global,
     ty: &XType,
     filled: bool,
+    mode: Mode,
     cursor: &mut C,
 ) -> Result<Part, DecodeFault>
     requires { sound (type_shape ty.now) ≡ true }
-    ensures { Decodes part_of (whole_read filled (type_shape ty.now)) (C.state cursor.old) (C.state cursor.new) result }
+    ensures { Decodes part_of (whole_read mode filled (type_shape ty.now)) (C.state cursor.old) (C.state cursor.new) result }
 {
-    if filled {
+    if mode.fills(filled) {
         let left = cursor.region_end() - cursor.place();
-        return read_content(alloc, ty, left, cursor);
+        return read_content(alloc, ty, left, mode, cursor);
     }
-    read_part(alloc, ty, cursor)
+    read_part(alloc, ty, mode, cursor)
 }

@@ -6,15 +6,15 @@ ghost use Rattle.xcdr_model.specs.Projection.{whole_structure};
 ghost use Rattle.settled_parts.specs.Members.{by_member};
 ghost use Rattle.settled_parts.specs.Parts.{part_of};
 ghost use Rattle.xcdr_reader.specs.Members.{Pieces, Holds, IsIndexed, IsNew, IsPlace, IsWithin, piece_of};
-ghost use Rattle.xcdr_two_steps.specs.Indices.{index_of};
+ghost use Rattle.reading_steps.specs.Indices.{index_of};
 
 use member_index::MemberIndex;
+use reading_steps::{Header, find_member};
 use settled_parts::{MemberSlots, Part, slot_from};
 use std::alloc::Global;
 use type_trees::Member;
 use wire_cursor::DecodeFault;
 use xcdr_model::Why;
-use xcdr_two_steps::{Header, find_member};
 use xt_lists::OutOfMemory;
 
 /// How many members are gone through one by one.

@@ -1,10 +1,13 @@
-//! XCDR2 (extended CDR, encoding version 2: DDS-XTypes 1.3, 7.4.2 and 7.4.3): values and samples of octets, by the reader's type alone.
+//! Values of octets, by the reader's type alone, in XCDR1 and XCDR2 (extended CDR, encoding versions 1 and 2: DDS-XTypes 1.3, 7.4).
 #![tactic(auto)]
 
 mod blocks;
 mod body;
+mod comings;
 mod decode;
+mod headings;
 mod known;
 mod leaves;
+mod modes;
 
-pub use body::decode2;
+pub use body::{decode_value, decode1, decode2};

@@ -1,5 +1,5 @@
 // How values are read: in XCDR2, or in XCDR1 as inner values or tails (DDS-XTypes 1.3, 7.4.1 and 7.4.3).
-ghost use Rattle.std.specs.Prelude.{◌≡◌};
+ghost use Rattle.std.specs.Prelude.{◌≡◌, ◌&&◌};
 ghost use Rattle.wire_numbers.specs.Units.{IsUnit};
 ghost use Rattle.type_trees.specs.Bridge.{type_shape};
 ghost use Rattle.xcdr_reader.specs.Modes as spec;
@@ -65,12 +65,12 @@ impl Mode {
         }
     }
 
-    /// Whether a union's case that has the rest of the region must use it up.
-    pub(crate) fn fills(self) -> bool
-        ensures { result ≡ spec.fills self }
+    /// Whether a union's case that has the rest of the region, where it is `filled`, must use it up.
+    pub(crate) fn fills(self, filled: bool) -> bool
+        ensures { result ≡ (filled && spec.fills self) }
     {
         match self {
-            Mode::Two => true,
+            Mode::Two => filled,
             Mode::Inner => false,
             Mode::Tail => false,
         }

@@ -1,14 +1,15 @@
 -- A sample's body, by the definition of values at a place.
-use Rattle.std.proofs.Common.{◌≡◌, refl, subst, ℕ, true, false, Bool, List, length, cond, ◌==◌, Result, Ok, Err}
+use Rattle.std.proofs.Common.{◌≡◌, refl, ap, ◌∙◌, subst, ℕ, true, false, Bool, List, length, cond, ◌==◌, Result, Ok, Err}
 use Rattle.xt_shapes.specs.declared.leaves.Ext.{Ext}
 use Rattle.xt_shapes.specs.declared.leaves.Order.{Order}
-use Rattle.xt_shapes.specs.declared.leaves.Rep.TheVariants.{Xcdr2}
+use Rattle.xt_shapes.specs.declared.leaves.Rep.{Rep}
 use Rattle.xt_shapes.specs.Shape.{Shape}
 use Rattle.xcdr_model.specs.declared.malformed.Why.TheVariants.{Trailing}
 use Rattle.xcdr_model.specs.Projection.{Part}
 use Rattle.xcdr_model.specs.Reading.{Spot, Reading, fault_at, ◌>>=◌}
-use Rattle.xcdr_model.specs.Samples.{Outcome, outcome_of, body_outcome, top_ext}
-use Rattle.xcdr_model.specs.Xcdr2Reading.{read, read_body}
+use Rattle.xcdr_model.specs.declared.malformed.Fault.{Fault}
+use Rattle.xcdr_model.specs.Samples.{Outcome, outcome_of, body_outcome, value_read, top_ext}
+use Rattle.shape_laws.specs.Readings.{BodyIsValue}
 use Rattle.wire_cursor.specs.declared.faults.DecodeFault.{DecodeFault}
 use Rattle.wire_cursor.specs.Standing.{Standing}
 use Rattle.wire_cursor.specs.Decoding.{Decodes}
@@ -31,10 +32,10 @@ unfolding ◌>>=◌
 by_value (Ok x) = left_none (length x.1.rest == 0) x
 by_value (Err f) = refl
 
-body_is : (t : Shape) (o : Order) (b : List ℕ) → body_outcome Xcdr2 o t b ≡ whole_body (value_outcome t) o b
-unfolding read_body whole_body
-body_is t o b = by_value (read o t (record { at = 0; rest = b }))
+body_is : (r : Rep) (t : Shape) (o : Order) (b : List ℕ) → BodyIsValue → body_outcome r o t b ≡ whole_body (value_outcome r t) o b
+unfolding whole_body
+body_is r t o b law = ap (λ (x : Result Part Fault). x >>= λ y. Ok (outcome_of y)) (law r o t b) ∙ by_value (value_read r o t (record { at = 0; rest = b }))
 
 -- what is read by head and body is read of the sample
-pub by_parts : {T : Type 0} (view : T → Outcome) (t : Shape) (e : Ext) {a b : Standing} {r : Result T DecodeFault} → e ≡ top_ext t → Decodes view (sample_at Xcdr2 e (value_outcome t)) a b r → Decodes view (sample_outcome t) a b r
-by_parts view t e {a} {b} {r} is d = decodes_as view (sample_outcome t) (sample_at Xcdr2 (top_ext t) (value_outcome t)) (λ s. sample_is Xcdr2 t (value_outcome t) (λ o b. body_is t o b) a.order s.at s.rest) (subst (λ (x : Ext). Decodes view (sample_at Xcdr2 x (value_outcome t)) a b r) is d)
+pub by_parts : {T : Type 0} (view : T → Outcome) (rep : Rep) (t : Shape) (e : Ext) {a b : Standing} {r : Result T DecodeFault} → BodyIsValue → e ≡ top_ext t → Decodes view (sample_at rep e (value_outcome rep t)) a b r → Decodes view (sample_outcome rep t) a b r
+by_parts view rep t e {a} {b} {r} law is d = decodes_as view (sample_outcome rep t) (sample_at rep (top_ext t) (value_outcome rep t)) (λ s. sample_is rep t (value_outcome rep t) (λ o b. body_is rep t o b law) a.order s.at s.rest) (subst (λ (x : Ext). Decodes view (sample_at rep x (value_outcome rep t)) a b r) is d)

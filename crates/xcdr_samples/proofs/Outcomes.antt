@@ -1,6 +1,6 @@
 -- What comes out of a sample has the reader's type, and few nodes for its octets.
 use Rattle.std.proofs.Common.{◌≡◌, refl, sym, ap, ◌∙◌, subst, ℕ, ◌+◌, ◌-◌, ◌*◌, ◌≤◌, List, length, Option, Some, None, Result, Ok, Err, arith, IsTrue, nat_lt}
-use Rattle.xt_shapes.specs.declared.leaves.Rep.TheVariants.{Xcdr2}
+use Rattle.xt_shapes.specs.declared.leaves.Rep.{Rep}
 use Rattle.xt_shapes.specs.Lists.{all}
 use Rattle.xt_shapes.specs.Nodes.{nodes}
 use Rattle.xt_shapes.specs.Shape.{Shape}
@@ -35,28 +35,28 @@ light_outcome t n (sample v) h = h v refl
 light_outcome t n discarded h = tt
 light_outcome t n must_understand h = tt
 
-pub sample_typed : {T : Type 0} (view : T → Outcome) (t : Shape) {a b : Standing} {out : T}
-    → ((s : List ℕ) (v : Val) → IsTrue (all (λ c. nat_lt c 256) s) → read_sample Xcdr2 t s ≡ Ok (sample v) → IsTrue (has_type t v))
-    → Decodes view (sample_outcome t) a b (Ok out) → ComesTyped t a (view out)
-sample_typed view t {a} {b} {out} law d = by_told a.ahead (λ xs e. d.told xs e)
+pub sample_typed : {T : Type 0} (view : T → Outcome) (rep : Rep) (t : Shape) {a b : Standing} {out : T}
+    → ((s : List ℕ) (v : Val) → IsTrue (all (λ c. nat_lt c 256) s) → read_sample rep t s ≡ Ok (sample v) → IsTrue (has_type t v))
+    → Decodes view (sample_outcome rep t) a b (Ok out) → ComesTyped t a (view out)
+sample_typed view rep t {a} {b} {out} law d = by_told a.ahead (λ xs e. d.told xs e)
   where
-    by_told : (o : Option (List ℕ)) → ((xs : List ℕ) → o ≡ Some xs → Answers view a b xs (sample_outcome t a.order (spot a xs)) (Ok out)) → ComesTyped t (record a { ahead = o }) (view out)
+    by_told : (o : Option (List ℕ)) → ((xs : List ℕ) → o ≡ Some xs → Answers view a b xs (sample_outcome rep t a.order (spot a xs)) (Ok out)) → ComesTyped t (record a { ahead = o }) (view out)
     by_told None told = tt
     by_told (Some xs) told = λ small.
-        let one = reads_ok view (sample_outcome t a.order (spot a xs)) a b xs out (told xs refl) in
-        let read = from_region (spot a xs) (read_sample Xcdr2 t (spot a xs).rest) one.0 one.2 in
+        let one = reads_ok view (sample_outcome rep t a.order (spot a xs)) a b xs out (told xs refl) in
+        let read = from_region (spot a xs) (read_sample rep t (spot a xs).rest) one.0 one.2 in
         subst (IsTyped t) (sym one.1.value) (typed_outcome t one.0.0 (λ v is. law (spot a xs).rest v small (read ∙ ap (λ (z : Outcome). Ok z) is)))
 
-pub sample_light : {T : Type 0} (view : T → Outcome) (t : Shape) {a b : Standing} {out : T} → Stands a → b.place ≡ a.region_end
-    → ((s : List ℕ) (v : Val) → read_sample Xcdr2 t s ≡ Ok (sample v) → nodes v ≤ weight t + 128 * length s)
-    → Decodes view (sample_outcome t) a b (Ok out) → ComesLight t a b (view out)
-sample_light view t {a} {b} {out} st whole law d = by_told a.ahead refl
+pub sample_light : {T : Type 0} (view : T → Outcome) (rep : Rep) (t : Shape) {a b : Standing} {out : T} → Stands a → b.place ≡ a.region_end
+    → ((s : List ℕ) (v : Val) → read_sample rep t s ≡ Ok (sample v) → nodes v ≤ weight t + 128 * length s)
+    → Decodes view (sample_outcome rep t) a b (Ok out) → ComesLight t a b (view out)
+sample_light view rep t {a} {b} {out} st whole law d = by_told a.ahead refl
   where
     by_told : (o : Option (List ℕ)) → a.ahead ≡ o → ComesLight t (record a { ahead = o }) b (view out)
     by_told None e = tt
     by_told (Some xs) e =
-        let one = reads_ok view (sample_outcome t a.order (spot a xs)) a b xs out (d.told xs e) in
-        let read = from_region (spot a xs) (read_sample Xcdr2 t (spot a xs).rest) one.0 one.2 in
+        let one = reads_ok view (sample_outcome rep t a.order (spot a xs)) a b xs out (d.told xs e) in
+        let read = from_region (spot a xs) (read_sample rep t (spot a xs).rest) one.0 one.2 in
         let all_of : length (spot a xs).rest ≡ b.place - a.place = omega (arith, room_is xs st e, whole) in
         subst (IsLight t (b.place - a.place)) (sym one.1.value) (light_outcome t (b.place - a.place) one.0.0 (λ v is.
         omega (arith, law (spot a xs).rest v (read ∙ ap (λ (z : Outcome). Ok z) is), all_of)))

@@ -19,13 +19,13 @@ use Rattle.tool_output.specs.declared.ending.Ending.TheVariants.{Done}
 use Rattle.tool_output.specs.declared.ending.Style.TheVariants as styles
 use Rattle.tool_output.specs.Outputs.{Output, Refusal, ◌>>=◌, unless_refused, finished, after_turn, run, run_over, taking}
 use Rattle.tool_front.specs.Fronts.{Front}
-use Rattle.tool_runs.specs.Commands.{body_behind, command_output}
+use Rattle.tool_runs.specs.Commands.{body_behind}
 use Rattle.tool_types.specs.Types.{Declared}
 use Rattle.tool_words.specs.Words.{Command, Pair}
 use Rattle.tool_lines.specs.Lines.{judged, outcome_line, sample_line, unless_failed, read_turn}
 use Rattle.tool_verdicts.specs.Verdicts.{NamedAreValid, assignable}
 use Rattle.tool_commands.specs.Commands.{read_lines}
-use Rattle.xt_tool.specs.Output.{asked, in_second, output_of}
+use Rattle.xt_tool.specs.Output.{asked, output_of}
 use Rattle.xt_tool.specs.Headline.{AreSamples, samples_in, Reads, Headline, Refused}
 
 -- ---- a line for each sample
@@ -68,7 +68,6 @@ to_verdict : (words : List (List ℕ)) (octets : List ℕ) (pair : Pair) (reader
     → output_of words octets ≡ unless_refused styles.Lines (with_type pair.rep reads.front (judged pair.policy pair.rep reader writer >>= λ u. Ok reader))
 to_verdict words octets pair reader writer payloads reads =
     ap (λ (c : Option Command). asked c octets) reads.words_are
-    ∙ ap (λ (r : Rep). in_second r (command_output styles.Lines (body_behind (read_lines pair)) (bundle octets))) reads.second
     ∙ ap (λ (f : Result Front Refusal). unless_refused styles.Lines (f >>= body_behind (read_lines pair))) reads.opens
     ∙ ap (from_declared pair reads.front) reads.declares
     ∙ ap (λ (p : Result (Tree × Tree) Refusal). unless_refused styles.Lines (with_type pair.rep reads.front (found_by pair p))) reads.named

@@ -4,7 +4,6 @@ use Rattle.std.specs.Prelude.{◌≡◌, ℕ, ◌⊎◌, List, [], ◌∷◌, �
 use Rattle.xt_io.specs.declared.Kind.TheVariants.{Sample, Note}
 use Rattle.xt_io.specs.declared.Item.{Item}
 use Rattle.xt_io.specs.Bundles.{bundle}
-use Rattle.xt_shapes.specs.declared.leaves.Rep.TheVariants.{Xcdr2}
 use Rattle.xt_shapes.specs.declared.leaves.Step.{Step}
 use Rattle.xt_shapes.specs.Vals.{Val}
 use Rattle.type_trees.specs.Trees.{Tree}
@@ -40,7 +39,6 @@ samples_in (item ∷ items) = if same_kind item.kind Sample then item.payload �
 -- body holds samples and Notes to its end.
 pub record Reads (words : List (List ℕ)) (octets : List ℕ) (pair : Pair) (reader writer : Tree) (payloads : List (List ℕ)) : Type 0 where
   pub words_are : command_of words ≡ Some (read pair)
-  pub second : pair.rep ≡ Xcdr2
   pub front : Front
   pub opens : front_of 0 (bundle octets) ≡ Ok front
   pub types : List Declared × Texts

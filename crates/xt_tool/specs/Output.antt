@@ -1,8 +1,6 @@
 -- What the words and the octets of the input come to (this profile's own).
 use Rattle.std.specs.Prelude.{ℕ, List, Option, Some, None, codes}
 use Rattle.xt_io.specs.Bundles.{bundle}
-use Rattle.xt_shapes.specs.declared.leaves.Rep.{Rep}
-use Rattle.xt_shapes.specs.declared.leaves.Rep.TheVariants.{Xcdr1, Xcdr2}
 use Rattle.tool_output.specs.declared.ending.Cause.TheVariants.{Words as BadWords}
 use Rattle.tool_output.specs.declared.ending.Style.{Style}
 use Rattle.tool_output.specs.declared.ending.Style.TheVariants.{Lines, Records}
@@ -18,19 +16,14 @@ use Rattle.tool_listing.specs.Listing.{compile_records, show_lines}
 abbrev pub bad_words : Output
 bad_words = refused Lines (record { text = codes "words"; cause = BadWords })
 
--- Samples in XCDR1 are not read yet: the words are refused.
-abbrev pub in_second : Rep → Output → Output
-in_second Xcdr1 output = bad_words
-in_second Xcdr2 output = output
-
 -- ---- commands
 
 abbrev pub of_command : Command → List ℕ → Output
 of_command compile octets = command_output Records (ends_behind compile_records) (bundle octets)
 of_command (judge pair) octets = command_output Lines (ends_behind (judge_lines pair)) (bundle octets)
-of_command (read pair) octets = in_second pair.rep (command_output Lines (body_behind (read_lines pair)) (bundle octets))
+of_command (read pair) octets = command_output Lines (body_behind (read_lines pair)) (bundle octets)
 of_command (write r rep) octets = command_output Records (body_behind (write_records r rep)) (bundle octets)
-of_command (convert pair to) octets = in_second pair.rep (command_output Records (body_behind (convert_records pair to)) (bundle octets))
+of_command (convert pair to) octets = command_output Records (body_behind (convert_records pair to)) (bundle octets)
 of_command show octets = command_output Lines (ends_behind show_lines) (bundle octets)
 of_command (wrap kind) octets = wrapped kind octets
 

@@ -13,7 +13,6 @@ use tool_runs::{answer_command, body_command};
 use tool_words::Command;
 use xt_io::{Sink, Source};
 use xt_lists::Text;
-use xt_shapes::Rep;
 
 // The last line of words that are no command.
 #[tactic(auto, using(crate::proofs::Tops::wanted))]
@@ -43,14 +42,8 @@ fn run_command<S: Source, K: Sink>(
 {
     match command {
         Command::Judge(pair) => answer_command(alloc, &Judging { pair }, input, output),
-        Command::Read(pair) => match pair.rep {
-            Rep::Xcdr2 => body_command(alloc, &Reading::new(pair), input, output),
-            Rep::Xcdr1 => refuse_words(alloc, output),
-        },
-        Command::Convert(pair, to) => match pair.rep {
-            Rep::Xcdr2 => body_command(alloc, &Converting::new(pair, to), input, output),
-            Rep::Xcdr1 => refuse_words(alloc, output),
-        },
+        Command::Read(pair) => body_command(alloc, &Reading { pair }, input, output),
+        Command::Convert(pair, to) => body_command(alloc, &Converting { pair, to }, input, output),
         Command::Write(reference, rep) => {
             body_command(alloc, &Writing { reference, rep }, input, output)
         }

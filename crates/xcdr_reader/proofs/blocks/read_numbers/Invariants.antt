@@ -12,7 +12,7 @@ use Rattle.xcdr_reader.proofs.blocks.read_numbers.Given as goal
 abbrev pub invariant-loop-at : goal.invariant-loop-at
 invariant-loop-at g l = record {
   within : l.at ≤ l.count;
-  ahead : Ahead (items_read l.bound l.elem.tc (type_shape l.elem.ty) (Some l.count)) (numbers_then l.bound l.elem.tc (default_of (type_shape l.elem.ty)) l.prim l.count l.at (items_of l.items)) (g.C.Cursor.state l.fn.cursor) (g.C.Cursor.state l.cursor);
+  ahead : Ahead (items_read l.mode l.bound l.elem.tc (type_shape l.elem.ty) (Some l.count)) (numbers_then l.mode l.bound l.elem.tc (default_of (type_shape l.elem.ty)) l.prim l.count l.at (items_of l.items)) (g.C.Cursor.state l.fn.cursor) (g.C.Cursor.state l.cursor);
 }
 
 abbrev pub decreases-loop-at : goal.decreases-loop-at

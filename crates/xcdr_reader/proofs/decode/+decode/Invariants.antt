@@ -14,17 +14,17 @@ use Rattle.xcdr_reader.proofs.decode.+decode.Given as goal
 
 -- What is left to read is the items from here on, behind those that were gathered.
 abbrev pub invariant-read_items-loop-at : goal.invariant-read_items-loop-at
-invariant-read_items-loop-at g l = Ahead (items_read l.bound l.elem.tc (type_shape l.elem.ty) l.fn.given) (parts_from (items_then l.bound l.elem.tc (default_of (type_shape l.elem.ty))) (value_at (type_shape l.elem.ty)) l.count l.at (items_of l.items)) (g.C.Cursor.state l.fn.cursor) (g.C.Cursor.state l.cursor)
+invariant-read_items-loop-at g l = Ahead (items_read l.mode l.bound l.elem.tc (type_shape l.elem.ty) l.fn.given) (parts_from (items_then l.bound l.elem.tc (default_of (type_shape l.elem.ty))) (value_at l.mode (type_shape l.elem.ty)) l.count l.at (items_of l.items)) (g.C.Cursor.state l.fn.cursor) (g.C.Cursor.state l.cursor)
 
 abbrev pub invariant-read_entries-loop-at : goal.invariant-read_entries-loop-at
-invariant-read_entries-loop-at g l = Ahead (entries_read l.kind.bound l.kind.key.tc (type_shape l.kind.key.ty) l.kind.value.tc (type_shape l.kind.value.ty)) (entries_from l.kind.bound l.kind.key.tc (type_shape l.kind.key.ty) l.kind.value.tc (type_shape l.kind.value.ty) l.count l.at (entries_of l.entries)) (g.C.Cursor.state l.fn.cursor) (g.C.Cursor.state l.cursor)
+invariant-read_entries-loop-at g l = Ahead (entries_read l.mode l.kind.bound l.kind.key.tc (type_shape l.kind.key.ty) l.kind.value.tc (type_shape l.kind.value.ty)) (entries_from l.mode l.kind.bound l.kind.key.tc (type_shape l.kind.key.ty) l.kind.value.tc (type_shape l.kind.value.ty) l.count l.at (entries_of l.entries)) (g.C.Cursor.state l.fn.cursor) (g.C.Cursor.state l.cursor)
 
 abbrev pub invariant-read_members-loop-member : goal.invariant-read_members-loop-member
 invariant-read_members-loop-member g l = record {
-  ahead : Ahead (members_read l.cut (members_shape l.members)) (members_from l.cut l.members l.member-index (slots_of l.slots)) (g.C.Cursor.state l.fn.cursor) (g.C.Cursor.state l.cursor);
+  ahead : Ahead (members_read l.mode l.cut (members_shape l.members)) (members_from l.mode l.cut l.members l.member-index (slots_of l.slots)) (g.C.Cursor.state l.fn.cursor) (g.C.Cursor.state l.cursor);
   sound : sound_members (members_shape (drop l.member-index l.members)) ≡ true;
 }
 
 -- What is left to read is the pieces from here on, behind those that came.
 abbrev pub invariant-read_pieces-loop-turn : goal.invariant-read_pieces-loop-turn
-invariant-read_pieces-loop-turn g l = (ps : Pieces) × Holds (members_shape l.members) l.known ps × Ahead (mutable_read (members_shape l.members)) (pieces_then (members_shape l.members) (l.turn-end - l.turn) ps) (g.C.Cursor.state l.fn.cursor) (g.C.Cursor.state l.cursor)
+invariant-read_pieces-loop-turn g l = (ps : Pieces) × Holds (members_shape l.members) l.known ps × Ahead (mutable_read l.mode (members_shape l.members)) (pieces_then l.mode (members_shape l.members) (l.turn-end - l.turn) ps) (g.C.Cursor.state l.fn.cursor) (g.C.Cursor.state l.cursor)

@@ -1,0 +1,42 @@
+// What comes next among the members of a mutable structure, and what is left of a region (DDS-XTypes 1.3, 7.4.1.2 and 7.4.3.4).
+ghost use Rattle.std.specs.Prelude.{IfOk};
+ghost use Rattle.wire_cursor.specs.Decoding.{Decodes};
+ghost use Rattle.reading_steps.specs.Headings.{next_view, IsHeld};
+ghost use Rattle.xcdr_model.specs.Xcdr1Reading.{at_end_of};
+ghost use Rattle.xcdr_reader.specs.Modes.{next_in, to_end};
+
+use crate::modes::Mode;
+use reading_steps::Heading;
+use wire_cursor::{Cursor, DecodeFault, read_pass};
+use xcdr_one_steps::read_parameter;
+use xcdr_two_steps::next_header;
+
+/// Reads the next member's header, or what else stands there.
+pub(crate) fn next_heading<C: Cursor>(cursor: &mut C, mode: Mode) -> Result<Heading, DecodeFault>
+    ensures held { IfOk result (IsHeld (C.state cursor.new)) }
+    ensures value { Decodes (next_view (C.state cursor.old)) (next_in mode) (C.state cursor.old) (C.state cursor.new) result }
+{
+    match mode {
+        Mode::Two => next_header(cursor),
+        Mode::Inner => read_parameter(cursor),
+        Mode::Tail => read_parameter(cursor),
+    }
+}
+
+fn pass_left<C: Cursor>(cursor: &mut C) -> Result<(), DecodeFault>
+    ensures { Decodes (λ u. u) (λ o s. at_end_of tt s) (C.state cursor.old) (C.state cursor.new) result }
+{
+    let left = cursor.region_end() - cursor.place();
+    read_pass(cursor, left)
+}
+
+/// Passes over what is left of the region, where no count of its octets does.
+pub(crate) fn pass_rest<C: Cursor>(cursor: &mut C, mode: Mode) -> Result<(), DecodeFault>
+    ensures { Decodes (λ u. u) (λ o s. to_end mode tt s) (C.state cursor.old) (C.state cursor.new) result }
+{
+    match mode {
+        Mode::Two => Ok(()),
+        Mode::Inner => pass_left(cursor),
+        Mode::Tail => pass_left(cursor),
+    }
+}
