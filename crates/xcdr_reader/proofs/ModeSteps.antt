@@ -1,5 +1,5 @@
 -- What comes of a member, and what is left of a region, by what was tested.
-use Rattle.std.proofs.Common.{◌≡◌, refl, sym, ap, ◌∙◌, ℕ, ◌+◌, ◌-◌, ◌&&◌, ◌==◌, Bool, true, false, List, [], length, take, drop, nat_eq, nat_lt, Some, Ok, arith}
+use Rattle.std.proofs.Common.{◌≡◌, refl, sym, ap, ◌∙◌, ℕ, ◌+◌, true, false, [], length, drop, nat_lt, Ok, arith}
 use Rattle.std.proofs.lemmas.Bool.{le-ltb}
 use Rattle.std.proofs.lemmas.List.{drop_all}
 use Rattle.xt_shapes.specs.declared.leaves.Order.{Order}
@@ -10,14 +10,12 @@ use Rattle.xcdr_model.specs.Xcdr1Reading.{at_end_of}
 use Rattle.wire_cursor.specs.Standing.{Standing, Stands, room}
 use Rattle.wire_cursor.specs.Decoding.{spot}
 use Rattle.wire_cursor.specs.Steps.{pass_at}
-use Rattle.wire_cursor.proofs.Ahead.{Ahead, begins, rephrased, ended_is, room_is}
+use Rattle.wire_cursor.proofs.Ahead.{Ahead, begins, rephrased, room_is}
 use Rattle.xcdr_reader.specs.declared.modes.Mode.{Mode}
-use Rattle.xcdr_reader.specs.declared.comings.Coming.TheVariants.{Absent, Here}
 use Rattle.xcdr_reader.specs.declared.modes.Mode.TheVariants.{Two, Inner, Tail}
 use Rattle.xcdr_reader.specs.Modes.{to_end}
 use Rattle.xcdr_reader.specs.Insides.{members_read, cut_read}
 use Rattle.xcdr_reader.proofs.Gathering.{bind_ok}
-use Rattle.xcdr_reader.specs.Comings.{optional_read, here_read, coming_read}
 
 -- all octets of the region are passed over
 pass_all : (n : ℕ) (o : Order) (s : Spot) → n ≡ length s.rest → at_end_of tt s ≡ pass_at n o s

@@ -1,6 +1,6 @@
 -- One member in declared order: what comes of it is what the representations define.
-use Rattle.std.proofs.Common.{◌≡◌, refl, sym, ap, ◌∙◌, ℕ, ◌+◌, ◌≤◌, Bool, true, false, cond, not, ◌==◌, nat_lt, List, [], ◌∷◌, length, take, drop, Option, Some, None, Ok, Err, Result, arith, length-take, inl, inr, subst}
-use Rattle.std.proofs.lemmas.Bool.{cases_Bool, ltb-false, eqb-true}
+use Rattle.std.proofs.Common.{◌≡◌, refl, sym, ap, ◌∙◌, ℕ, ◌+◌, ◌≤◌, Bool, true, false, cond, not, ◌==◌, nat_lt, List, [], ◌∷◌, length, take, Option, Some, None, Ok, Err, Result, arith, length-take}
+use Rattle.std.proofs.lemmas.Bool.{ltb-false, eqb-true}
 use Rattle.xt_shapes.specs.declared.leaves.Order.{Order}
 use Rattle.xt_shapes.specs.Shape.{Head, Shape}
 use Rattle.xcdr_model.specs.declared.malformed.Fault.{Fault}

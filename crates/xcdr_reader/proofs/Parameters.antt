@@ -1,25 +1,25 @@
 -- Parameters that are read one after another make what reading all headers and then the contents makes.
-use Rattle.std.proofs.Common.{◌≡◌, refl, sym, ap, subst, ◌∙◌, ℕ, zero, suc, ◌+◌, ◌-◌, ◌/◌, ◌%◌, ◌^◌, ◌≤◌, ◌<◌, min, Bool, true, false, cond, not, ◌||◌, ◌==◌, nat_lt, nat_le, List, [], ◌∷◌, ◌++◌, length, take, drop, Option, Some, None, Result, Ok, Err, is_some, append_assoc, append-nil, length-drop, arith, inl, inr}
-use Rattle.std.proofs.lemmas.Bool.{cases_Bool, lt-ltb, ltb-false}
+use Rattle.std.proofs.Common.{◌≡◌, refl, sym, ap, subst, ◌∙◌, ℕ, zero, suc, ◌+◌, ◌-◌, ◌%◌, ◌^◌, ◌≤◌, ◌<◌, min, Bool, true, false, cond, not, ◌||◌, ◌==◌, nat_lt, nat_le, List, [], ◌∷◌, ◌++◌, length, take, drop, Option, Some, None, Result, Ok, Err, is_some, append_assoc, append-nil, length-drop, arith}
+use Rattle.std.proofs.lemmas.Bool.{lt-ltb, ltb-false}
 use Rattle.xt_shapes.specs.declared.leaves.Order.{Order}
 use Rattle.xt_shapes.specs.Lists.{has}
 use Rattle.xt_shapes.specs.Shape.{Shape, Members, no_members, member}
 use Rattle.xcdr_model.specs.declared.malformed.Fault.{Fault}
-use Rattle.xcdr_model.specs.declared.malformed.Why.TheVariants.{Short, MemberId, MemberSize, Twice, LengthRest, Parameter}
+use Rattle.xcdr_model.specs.declared.malformed.Why.TheVariants.{Short, MemberId, Twice, LengthRest, Parameter}
 use Rattle.xcdr_model.specs.Numbers.{number, padding}
 use Rattle.xcdr_model.specs.Reading.{Spot, Reading, fault_at, ◌>>=◌, step, front, is_used_up}
 use Rattle.xcdr_model.specs.Projection.{Part, whole_structure, built_at}
-use Rattle.xcdr_model.specs.Xcdr1Reading.{Mark, block_at, mark_at, first_octets, short_mark, long_mark, is_end, is_ignored, is_no_id, sized_at, shifted, closed_by, content_read, is_open, by_mark, checked_id, Params, pass_on, and_one, one_param, params_at, fault_of, params_read, read1, read_named1}
+use Rattle.xcdr_model.specs.Xcdr1Reading.{Mark, block_at, mark_at, first_octets, short_mark, long_mark, is_end, is_ignored, is_no_id, sized_at, shifted, closed_by, content_read, is_open, Params, pass_on, and_one, one_param, params_at, fault_of, params_read, read1, read_named1}
 use Rattle.xcdr_model.specs.Xcdr2Reading.{done, Piece, Contents, content_of, contents}
 use Rattle.settled_parts.proofs.GatherSteps.{or_assoc, or_false}
 use Rattle.reading_steps.specs.Headings.{Told, Next, ended, ignored, told}
-use Rattle.xcdr_one_steps.specs.Marks.{placed_mark, marked_at}
+use Rattle.xcdr_one_steps.specs.Marks.{placed_mark}
 use Rattle.xcdr_one_steps.specs.Parameters.{told_of, with_content, parameter_of, parameter_at}
 use Rattle.xcdr_reader.specs.declared.modes.Mode.{Mode}
 use Rattle.xcdr_reader.specs.declared.modes.Mode.TheVariants.{Inner, Tail}
 use Rattle.xcdr_reader.specs.Modes.{parameter_content, content_in, next_in}
-use Rattle.xcdr_reader.specs.Members.{Pieces, Reader, named_in, piece_read, heading_read, next_piece, if_piece, no_more, pieces_then, mutable_read}
-use Rattle.xcdr_reader.proofs.Gathering.{bind_ok, each_bind}
+use Rattle.xcdr_reader.specs.Members.{Pieces, Reader, named_in, piece_read, heading_read, if_piece, no_more, pieces_then, mutable_read}
+use Rattle.xcdr_reader.proofs.Gathering.{bind_ok}
 use Rattle.xcdr_reader.proofs.SeenIds.{Seen, seen_more}
 
 -- the modes of XCDR1

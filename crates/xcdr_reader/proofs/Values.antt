@@ -1,5 +1,5 @@
 -- A value's outcome: what is read, and what may be left behind it.
-use Rattle.std.proofs.Common.{◌≡◌, refl, ap, ◌∙◌, ℕ, Bool, true, false, cond, ◌==◌, length, Ok, Err}
+use Rattle.std.proofs.Common.{◌≡◌, refl, ◌∙◌, Bool, true, false, cond, ◌==◌, length, Ok}
 use Rattle.xt_shapes.specs.declared.leaves.Order.{Order}
 use Rattle.xt_shapes.specs.declared.leaves.Rep.{Rep}
 use Rattle.xt_shapes.specs.declared.leaves.Rep.TheVariants.{Xcdr1, Xcdr2}
@@ -14,7 +14,7 @@ use Rattle.wire_cursor.specs.Standing.{Standing}
 use Rattle.wire_cursor.proofs.Ahead.{Ahead, begins}
 use Rattle.xcdr_reader.specs.Bodies.{value_outcome, behind_union, value_end}
 use Rattle.xcdr_reader.specs.Modes.{read_in, mode_of}
-use Rattle.xcdr_reader.proofs.Gathering.{bind_bind, bind_ok, each_bind}
+use Rattle.xcdr_reader.proofs.Gathering.{bind_bind, each_bind}
 
 abbrev pub made : Part → Unit {0} → Order → Spot → Reading Outcome
 made x u o s = Ok (outcome_of x, s)

@@ -1,4 +1,4 @@
-use Rattle.std.proofs.Common.{sym, ap₂, ◌≡◌, ◌∙◌, ◌-◌, ◌%◌, ℕ, min}
+use Rattle.std.proofs.Common.{sym, ap₂, ◌≡◌, ◌∙◌, ◌-◌, ◌%◌, min}
 use Rattle.xt_shapes.specs.Sizes.{size}
 use Rattle.xcdr_reader.specs.Modes.{most}
 use Rattle.xcdr_reader.proofs.InBlocks.{padding_none, unit_some}

@@ -1,4 +1,3 @@
-use Rattle.std.proofs.Common.{refl, Ok, ◌∙◌}
 use Rattle.std.proofs.lemmas.Result.{err_from_is_err_and}
 use Rattle.type_trees.specs.Bridge.{type_shape}
 use Rattle.xcdr_model.specs.Samples.{outcome_of}

@@ -33,13 +33,13 @@ use Rattle.wire_cursor.proofs.Regions.{may_close, may_leave, filled_fails, fille
 use Rattle.reading_steps.specs.declared.choices.Choice.{Choice}
 use Rattle.reading_steps.specs.Cases.{choice}
 use Rattle.reading_steps.specs.Counts.{counted}
-use Rattle.reading_steps.specs.Headings.{next_view, header_view}
+use Rattle.reading_steps.specs.Headings.{next_view}
 use Rattle.xcdr_one_steps.proofs.ContentSteps.{content_fails, content_ends, content_unended, content_unopened, may_close as may_close_content}
 use Rattle.xcdr_reader.specs.declared.modes.Mode.{Mode}
-use Rattle.xcdr_reader.specs.declared.modes.Mode.TheVariants.{Two, Inner, Tail}
+use Rattle.xcdr_reader.specs.declared.modes.Mode.TheVariants.{Two}
 use Rattle.xcdr_reader.specs.declared.comings.Coming.{Coming}
 use Rattle.xcdr_reader.specs.declared.comings.Coming.TheVariants.{Absent, Here, Content}
-use Rattle.xcdr_reader.specs.Modes.{read_in, content_in, inner, most, next_in, to_end}
+use Rattle.xcdr_reader.specs.Modes.{content_in, inner, most, next_in, to_end}
 use Rattle.xcdr_reader.specs.Comings.{coming_read}
 use Rattle.xcdr_reader.specs.Insides.{members_read}
 use Rattle.xcdr_reader.specs.Members.{Pieces, piece_of, has_come, next_piece, no_more}
@@ -53,7 +53,7 @@ use Rattle.xcdr_reader.proofs.InOrder.{slot_part}
 use Rattle.xcdr_reader.proofs.KindSteps.{struct_inside, union_is_inside}
 use Rattle.xcdr_reader.proofs.PartSteps.{unopened, inside_fails, closed, not_closed, rest_filled, own_whole}
 use Rattle.xcdr_reader.proofs.ModeSteps.{rest_behind, with_value, cut_begin, value_ended}
-use Rattle.xcdr_reader.proofs.PieceSteps.{heading_then, next_begin, nothing_known, next_passed, some_piece, next_told, piece_at, pieces_begin, piece_next, piece_none, piece_then, piece_after, held_count, piece_twice, piece_passed, passed_piece, piece_kept, kept_piece}
+use Rattle.xcdr_reader.proofs.PieceSteps.{heading_then, next_begin, nothing_known, next_passed, some_piece, next_told, piece_at, pieces_begin, piece_next, piece_none, piece_after, piece_twice, piece_passed, passed_piece, piece_kept, kept_piece}
 use Rattle.xcdr_reader.proofs.decode.+decode.Goals as goal
 
 -- ---- a value

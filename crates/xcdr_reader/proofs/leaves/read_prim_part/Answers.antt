@@ -1,4 +1,4 @@
-use Rattle.std.proofs.Common.{rules, ℤ, Ok, refl, false}
+use Rattle.std.proofs.Common.{rules, ℤ, Ok, false}
 use Rattle.std.proofs.lemmas.Result.{err_from_is_err_and}
 use Rattle.xt_shapes.specs.declared.leaves.Order.{Order}
 use Rattle.xt_shapes.specs.declared.leaves.Primitive.{Primitive}
