@@ -4,7 +4,7 @@ use tool_output::{Cause, Ending, Stop, Style, last, next_of, run_body};
 use type_rules::check_type;
 use type_trees::XType;
 use xt_io::{BundleReader, MemSink, MemSource};
-use xt_shapes::Prim;
+use xt_shapes::{Prim, Rep};
 
 // A sample of 1, a sample that is too short, a Note, and a sample that is cut.
 const BODY: &[u8] =
@@ -19,7 +19,7 @@ fn each_sample_has_a_line(rt: HostRuntime) -> Result<(), Fail> {
     if check_type(&ty).is_err() {
         panic!(rt; "no valid type");
     }
-    let mut turns = Samples::new(ty, Lines);
+    let mut turns = Samples::new(Rep::Xcdr2, ty, Lines);
     let mut sink = MemSink::new(alloc, 4096, &[]);
     let mut reader = BundleReader::new(MemSource::new(BODY, 3, &[]));
     let Ok(next) = next_of(&mut reader) else {

@@ -4,7 +4,7 @@ use Rattle.std.specs.declared.option.Option.{Option}
 use Rattle.xt_io.specs.declared.Kind.{Kind}
 use Rattle.xt_io.specs.declared.Kind.TheVariants.{Sample, Note}
 use Rattle.xt_io.specs.declared.Item.{Item}
-use Rattle.xt_io.specs.Bundles.{Bundle, bundle}
+use Rattle.xt_io.specs.Bundles.{Bundle}
 use Rattle.xt_shapes.specs.declared.leaves.Rep.{Rep}
 use Rattle.type_trees.specs.Trees.{Tree}
 use Rattle.type_trees.specs.Bridge.{shape}
