@@ -1,0 +1,16 @@
+//! The service of TypeLookup (DDS-XTypes 1.3, 7.6.3.3) over many links at once: a worker for each door, in threads of their own. Doors, turns
+//! and workers are this profile's own.
+#![tactic(auto)]
+
+mod faults;
+mod halves;
+mod seat;
+#[cfg(test)]
+mod tests;
+mod turns;
+mod workers;
+
+pub use faults::ServeFault;
+pub use lookup_service::{Ended, Gate, NoGate, session};
+pub use seat::Seat;
+pub use workers::serve_workers;
