@@ -1,0 +1,9 @@
+//! A link in memory to the service itself, by which calls that ask a peer are run without one (this profile's own).
+#![tactic(auto)]
+
+mod exchange;
+mod links;
+#[cfg(test)]
+mod tests;
+
+pub use links::LoopLink;
