@@ -101,7 +101,7 @@ impl Gate for Both {
 fn two_workers_hold_their_sessions_beside_each_other(rt: HostRuntime) -> Result<(), Fail> {
     let alloc = rt.alloc();
     let registry: Registry<Md5Naming> = Registry::new(alloc);
-    let mut seats = seats(alloc, &registry, &[0, 0])?;
+    let mut seats = seats(alloc, &registry, &[0, 0]).expect(&rt, "memory");
     let gate = Both {
         calls: AtomicU64::new(0),
         late: AtomicU64::new(0),
@@ -120,10 +120,10 @@ fn two_workers_hold_their_sessions_beside_each_other(rt: HostRuntime) -> Result<
 fn a_door_that_fails_ends_its_own_worker(rt: HostRuntime) -> Result<(), Fail> {
     let alloc = rt.alloc();
     let registry: Registry<Md5Naming> = Registry::new(alloc);
-    let mut none = seats(alloc, &registry, &[])?;
+    let mut none = seats(alloc, &registry, &[]).expect(&rt, "memory");
     let served = serve_workers(&rt, alloc, &registry, &mut none, 2, &NoGate);
     assert_eq!(rt; served, Ok(0));
-    let mut seats = seats(alloc, &registry, &[0, 0, 0, 2, 0])?;
+    let mut seats = seats(alloc, &registry, &[0, 0, 0, 2, 0]).expect(&rt, "memory");
     let served = serve_workers(&rt, alloc, &registry, &mut seats, 2, &NoGate);
     assert_eq!(rt; served, Err(ServeFault::DoorFault));
     let all = seats.as_slice();
