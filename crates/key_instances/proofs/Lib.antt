@@ -1,0 +1,4 @@
+pub mod Places
+pub mod Puts
+pub mod Readings
+pub mod Within

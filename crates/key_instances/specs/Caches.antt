@@ -1,0 +1,47 @@
+-- What contracts see of a cache.
+use Rattle.std.specs.Prelude.{◌≤◌, ℕ, zero, suc, List, [], ◌∷◌, ◌++◌, length, map, All, Option, slice_get}
+use Rattle.std.specs.Option.{option_map, option_and_then}
+use Rattle.type_trees.specs.View.{val}
+use Rattle.type_trees.specs.declared.values.Value.{Value}
+use Rattle.xt_shapes.specs.Vals.{Val}
+use Rattle.kept_model.specs.Kept.{Instances, last}
+
+-- how many values are kept of a key, how many keys there may be, and the keys with their values
+pub record Cache : Type 0 where
+  pub depth : ℕ
+  pub most : ℕ
+  pub entries : List (List ℕ × List Value)
+
+-- what the values stand for
+abbrev pub shown : List ℕ × List Value → List ℕ × List Val
+shown e = (e.0, map val e.1)
+
+abbrev pub instances : Cache → Instances
+instances c = map shown c.entries
+
+-- none of these keys has more values
+abbrev pub AreWithin : ℕ → List (List ℕ × List Value) → Type 0
+AreWithin n es = All (λ e. length e.1 ≤ n) es
+
+-- what holds of every cache
+pub record IsCache (c : Cache) : Type 0 where
+  pub some : 1 ≤ c.depth
+  pub shallow : c.depth ≤ 1024
+  pub few : length c.entries ≤ c.most
+  pub most : c.most ≤ 65536
+  pub within : AreWithin c.depth c.entries
+
+abbrev pub key_of : Instances → ℕ → Option (List ℕ)
+key_of es i = option_map (λ e. e.0) (slice_get es i)
+
+abbrev pub count_of : Instances → ℕ → Option ℕ
+count_of es i = option_map (λ e. length e.1) (slice_get es i)
+
+abbrev pub value_of : Instances → ℕ → ℕ → Option Val
+value_of es i j = option_and_then (λ e. slice_get e.1 j) (slice_get es i)
+
+-- one value more of the key at this place, of which the last n stay
+abbrev pub again_at : ℕ → Instances → ℕ → Val → Instances
+again_at n [] i v = []
+again_at n (e ∷ es) zero v = (e.0, last n (e.1 ++ v ∷ [])) ∷ es
+again_at n (e ∷ es) (suc i) v = e ∷ again_at n es i v
