@@ -1,4 +1,4 @@
-//! The last values of each key (this profile's own).
+//! The last values of each key (this profile's own). The keys' octets and hashes come from `key_octets`.
 #![tactic(auto)]
 
 mod entry;
@@ -7,3 +7,4 @@ mod instances;
 mod tests;
 
 pub use instances::{Instances, PutFault};
+pub use key_octets::{hash_of, key_hash, key_octets, short_key};

@@ -1,0 +1,12 @@
+-- the next counted member
+pub mod Least
+pub mod From
+pub mod Members
+-- where keys end
+pub mod Stays
+pub mod Tops
+-- what is written
+pub mod Chained
+pub mod Whole
+-- hashes
+pub mod Padded
