@@ -1,0 +1,4 @@
+pub mod SampleSays
+pub mod Written
+pub mod Listing
+pub mod StreamTexts

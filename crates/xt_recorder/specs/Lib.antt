@@ -1,0 +1,5 @@
+pub mod Streams
+pub mod Recordings
+pub mod Replays
+pub mod Answers
+pub mod Replaying

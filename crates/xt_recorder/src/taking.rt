@@ -1,0 +1,148 @@
+// Recordings, read by a type of today.
+ghost use Rattle.std.specs.Prelude.{◌≡◌, IfOk, IfErr, OnErr, OnOk, Ok, Err, None, true};
+ghost use Rattle.type_trees.specs.Bridge.{type_shape};
+ghost use Rattle.type_trees.specs.View.{tree};
+ghost use Rattle.projection_laws.specs.Premises.{IsValid};
+ghost use Rattle.xt_recorder.specs.Replays as spec;
+ghost use Rattle.assignability.specs.Views.{verdict_view};
+ghost use Rattle.type_object.specs.Pools.{added};
+ghost use Rattle.object_walks.specs.Resolving.{resolved};
+ghost use Rattle.xcdr_model.specs.Samples.{read_sample};
+ghost use Rattle.xt_recorder.specs.Streams.{stream_of};
+ghost use Rattle.xt_recorder.specs.declared.replayed.ReplayFault.TheVariants as faults;
+ghost use Rattle.xt_recorder.specs.Answers.{answer, Refuses};
+ghost use Rattle.xt_recorder.specs.Replaying.{reader_of, state_of};
+
+use crate::replayed::{ReplayFault, Replayed};
+use crate::replayer::{Replayer, Stream};
+use crate::streams::stream_of;
+use assignability::{Verdict, judge};
+use object_walks::{ResolveFault, resolve};
+use std::alloc::Global;
+use type_object::{Pool, PoolFault};
+use type_rules::is_within_limits;
+use type_trees::{HashId, XType, as_struct, as_union};
+use wire_cursor::{DecodeFault, SliceCursor};
+use xcdr_samples::read_sample;
+use xt_io::{Item, Kind};
+use xt_shapes::Rep;
+
+fn is_yes(verdict: &Verdict) -> bool
+    ensures { result ≡ spec.is_yes (verdict_view verdict.now) }
+{
+    match verdict {
+        Verdict::Yes => true,
+        Verdict::No { .. } => false,
+    }
+}
+
+fn is_top(ty: &XType) -> bool
+    ensures { result ≡ spec.is_top (type_shape ty.now) }
+{
+    as_struct(ty).is_some() || as_union(ty).is_some()
+}
+
+impl Replayer {
+    /// A reader of recordings, with the objects of a pool. It takes no memory.
+    pub fn new(reader: XType, pool: Pool) -> Replayer
+        requires valid { IsValid reader }
+        requires top { spec.is_top (type_shape reader) ≡ true }
+        ensures reader { reader_of result ≡ tree reader }
+        ensures state { state_of result ≡ record { pool = pool; stream = None } }
+    {
+        Replayer {
+            reader,
+            pool,
+            stream: None,
+        }
+    }
+
+    fn object(&mut self, payload: &[u8]) -> Result<Replayed, ReplayFault>
+        ensures ok { IfOk result (λ replayed. spec.object_taken (state_of self.old) (added self.old.pool payload.now) ≡ Ok (answer replayed, state_of self.new)) }
+        ensures err { IfErr result (λ fault. Refuses fault (spec.object_taken (state_of self.old) (added self.old.pool payload.now))) }
+        ensures reader { reader_of self.new ≡ reader_of self.old }
+        ensures unchanged { OnErr result (state_of self.new ≡ state_of self.old) }
+    {
+        match self.pool.add(payload) {
+            Ok(_) => Ok(Replayed::Nothing),
+            Err(PoolFault::OutOfMemory) => Err(ReplayFault::OutOfMemory),
+            Err(fault) => Err(ReplayFault::Pool(fault)),
+        }
+    }
+
+    fn begin(&mut self, alloc: Global, id: HashId, rep: Rep) -> Result<Replayed, ReplayFault>
+        ensures ok { IfOk result (λ replayed. spec.stream_begun (reader_of self.old) (state_of self.old) id rep (resolved self.old.pool id) ≡ Ok (answer replayed, state_of self.new)) }
+        ensures err { IfErr result (λ fault. Refuses fault (spec.stream_begun (reader_of self.old) (state_of self.old) id rep (resolved self.old.pool id))) }
+        ensures reader { reader_of self.new ≡ reader_of self.old }
+        ensures unchanged { OnErr result (state_of self.new ≡ state_of self.old) }
+    {
+        let ty = match resolve(alloc, &self.pool, &id) {
+            Ok(ty) => ty,
+            Err(ResolveFault::OutOfMemory) => return Err(ReplayFault::OutOfMemory),
+            Err(fault) => return Err(ReplayFault::Resolve(fault)),
+        };
+        if !is_top(&ty) {
+            return Err(ReplayFault::Top(id));
+        }
+        is_within_limits();
+        let verdict = judge(rep, &self.reader, &ty);
+        let yes = is_yes(&verdict);
+        self.stream = Some(Stream { rep, yes });
+        Ok(Replayed::Stream { id, rep, verdict })
+    }
+
+    fn note(&mut self, alloc: Global, payload: &[u8]) -> Result<Replayed, ReplayFault>
+        ensures ok { IfOk result (λ replayed. spec.note_taken (reader_of self.old) (state_of self.old) (stream_of payload.now) ≡ Ok (answer replayed, state_of self.new)) }
+        ensures err { IfErr result (λ fault. Refuses fault (spec.note_taken (reader_of self.old) (state_of self.old) (stream_of payload.now))) }
+        ensures reader { reader_of self.new ≡ reader_of self.old }
+        ensures unchanged { OnErr result (state_of self.new ≡ state_of self.old) }
+    {
+        match stream_of(alloc, payload) {
+            Err(_) => Err(ReplayFault::OutOfMemory),
+            Ok(None) => Ok(Replayed::Nothing),
+            Ok(Some((id, rep))) => self.begin(alloc, id, rep),
+        }
+    }
+
+    // What the reader's type makes of a sample.
+    fn read(&self, alloc: Global, rep: Rep, payload: &[u8]) -> Result<Replayed, ReplayFault>
+        ensures ok { IfOk result (λ replayed. answer replayed ≡ spec.sample_answer (read_sample rep (type_shape self.now.reader) payload.now)) }
+        ensures err { IfErr result (λ fault. fault ≡ faults.OutOfMemory) }
+    {
+        let mut cursor = SliceCursor::new(payload);
+        match read_sample(alloc, rep, &self.reader, &mut cursor) {
+            Ok(outcome) => Ok(Replayed::Read(outcome)),
+            Err(DecodeFault::Malformed { at, why }) => Ok(Replayed::Malformed { at, why }),
+            Err(DecodeFault::ReadFault) => Err(ReplayFault::OutOfMemory),
+            Err(DecodeFault::OutOfMemory) => Err(ReplayFault::OutOfMemory),
+        }
+    }
+
+    fn sample(&self, alloc: Global, payload: &[u8]) -> Result<Replayed, ReplayFault>
+        ensures ok { IfOk result (λ replayed. spec.sample_taken (reader_of self.now) (state_of self.now) (state_of self.now).stream payload.now ≡ Ok (answer replayed, state_of self.now)) }
+        ensures err { IfErr result (λ fault. Refuses fault (spec.sample_taken (reader_of self.now) (state_of self.now) (state_of self.now).stream payload.now)) }
+    {
+        match self.stream {
+            None => Err(ReplayFault::Misplaced),
+            Some(Stream { yes: false, .. }) => Ok(Replayed::Nothing),
+            Some(Stream { rep, yes: true }) => self.read(alloc, rep, payload),
+        }
+    }
+
+    /// Takes the next record. After a fault the Replayer is unchanged.
+    pub fn take(&mut self, alloc: Global, item: &Item) -> Result<Replayed, ReplayFault>
+        ensures ok { IfOk result (λ replayed. spec.taken (reader_of self.old) (state_of self.old) item.now ≡ Ok (answer replayed, state_of self.new)) }
+        ensures err { IfErr result (λ fault. Refuses fault (spec.taken (reader_of self.old) (state_of self.old) item.now)) }
+        ensures reader { reader_of self.new ≡ reader_of self.old }
+        ensures unchanged { OnErr result (state_of self.new ≡ state_of self.old) }
+    {
+        let payload = item.payload.octets();
+        match item.kind {
+            Kind::Object => self.object(payload),
+            Kind::Note => self.note(alloc, payload),
+            Kind::Sample => self.sample(alloc, payload),
+            Kind::Idl => Err(ReplayFault::Misplaced),
+            Kind::Json => Err(ReplayFault::Misplaced),
+        }
+    }
+}
