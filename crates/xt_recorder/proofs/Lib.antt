@@ -2,3 +2,4 @@ pub mod SampleSays
 pub mod Written
 pub mod Listing
 pub mod StreamTexts
+pub mod Telling

@@ -1,5 +1,5 @@
 -- What is listed of an identifier, by its levels.
-use Rattle.std.proofs.Common.{◌≡◌, refl, sym, ap, ◌∙◌, ℕ, zero, suc, ◌-◌, Bool, true, false, cond, ◌≢◌, List, [], ◌∷◌, ◌||◌, arith}
+use Rattle.std.proofs.Common.{◌≡◌, refl, sym, ap, ◌∙◌, ℕ, suc, ◌-◌, Bool, true, false, cond, ◌≢◌, List, [], ◌∷◌, ◌||◌, arith}
 use Rattle.std.specs.List.{list_any}
 use Rattle.type_trees.specs.contracts.types.HashIdPartialEq.TheImpl as keys
 use Rattle.type_trees.specs.declared.types.HashId.{HashId}

@@ -1,12 +1,10 @@
 -- What the answers of a Replayer stand for.
-use Rattle.std.specs.Prelude.{◌≡◌, Result, Ok, Err}
+use Rattle.std.specs.Prelude.{◌≡◌, Err}
 use Rattle.assignability.specs.Views.{verdict_view}
 use Rattle.settled_parts.specs.Settling.{outcome_val}
-use Rattle.type_object.specs.declared.pool.PoolFault.{PoolFault}
 use Rattle.type_object.specs.declared.pool.PoolFault.TheVariants as P
 use Rattle.type_object.specs.Faults as pool_faults
 use Rattle.type_object.specs.Pools as pools
-use Rattle.object_walks.specs.declared.resolving.ResolveFault.{ResolveFault}
 use Rattle.object_walks.specs.declared.resolving.ResolveFault.TheVariants as R
 use Rattle.object_walks.specs.Walking as walk_faults
 use Rattle.object_walks.specs.Resolving as walks

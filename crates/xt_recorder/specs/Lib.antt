@@ -3,3 +3,4 @@ pub mod Recordings
 pub mod Replays
 pub mod Answers
 pub mod Replaying
+pub mod Laws

@@ -1,11 +1,11 @@
 -- A recording: the objects of a type, the Note of its stream, and samples (this profile's own).
-use Rattle.std.specs.Prelude.{ℕ, zero, suc, List, [], ◌∷◌, ◌++◌, map, length, cond, Option, Some, None}
+use Rattle.std.specs.Prelude.{ℕ, zero, suc, List, [], ◌∷◌, ◌++◌, length, cond, Option, Some, None}
 use Rattle.xt_shapes.specs.declared.leaves.Rep.{Rep}
 use Rattle.type_trees.specs.declared.types.HashId.{HashId}
 use Rattle.object_formats.specs.Objects.{Object}
 use Rattle.type_object.specs.Pools.{Texts, found, object_at}
 use Rattle.type_object.specs.References.{is_among, note, references}
-use Rattle.xt_io.specs.declared.Kind.TheVariants.{Object as Objects, Sample, Note}
+use Rattle.xt_io.specs.declared.Kind.TheVariants.{Object as Objects, Note}
 use Rattle.xt_io.specs.Records.{record_octets}
 use Rattle.xt_recorder.specs.Streams.{stream_text}
 

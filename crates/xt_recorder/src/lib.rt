@@ -2,6 +2,7 @@
 #![tactic(auto)]
 
 mod closing;
+pub mod laws;
 mod replayed;
 mod replayer;
 mod streams;

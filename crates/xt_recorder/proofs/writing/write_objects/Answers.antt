@@ -1,4 +1,4 @@
-use Rattle.std.proofs.Common.{◌≡◌, [], sym, ap, ◌∙◌, ◌++◌, ◌+◌, List, ℕ, refl, subst, arith, drop, get_or}
+use Rattle.std.proofs.Common.{◌≡◌, [], sym, ◌∙◌, ◌++◌, ◌+◌, List, ℕ, refl, subst, arith, drop, get_or}
 use Rattle.std.proofs.lemmas.Result.{err_from_is_err_and}
 use Rattle.std.proofs.KnownBytes.{Appends-trans}
 use Rattle.xt_outside.specs.Outside.{AppendsAll, AppendsPrefix}

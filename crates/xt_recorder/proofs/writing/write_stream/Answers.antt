@@ -1,9 +1,9 @@
-use Rattle.std.proofs.Common.{sym, ap, ap₂, ◌∙◌, ◌++◌, List, ℕ, length, subst, arith}
+use Rattle.std.proofs.Common.{ap, ap₂, ◌∙◌, ◌++◌, List, ℕ, length, subst, arith}
 use Rattle.xt_outside.specs.Outside.{AppendsPrefix}
 use Rattle.xt_io.specs.declared.Kind.TheVariants.{Note}
 use Rattle.xt_io.specs.Records.{record_octets}
 use Rattle.type_trees.specs.declared.types.HashId.{HashId}
-use Rattle.xt_recorder.specs.Recordings.{object_records, opening}
+use Rattle.xt_recorder.specs.Recordings.{object_records}
 use Rattle.xt_recorder.proofs.StreamTexts.{stream_length}
 use Rattle.xt_recorder.proofs.writing.write_stream.Goals as goal
 

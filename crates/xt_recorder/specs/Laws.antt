@@ -1,0 +1,56 @@
+-- The laws of recordings (this profile's own).
+use Rattle.std.specs.Prelude.{◌≡◌, ℕ, List, [], ◌∷◌, map, length, true, false, Some, None}
+use Rattle.xt_shapes.specs.declared.leaves.Rep.{Rep}
+use Rattle.xt_shapes.specs.Shape.{Shape}
+use Rattle.xt_shapes.specs.Vals.{Val}
+use Rattle.type_trees.specs.declared.types.HashId.{HashId}
+use Rattle.type_trees.specs.Ids.{is_object_kind, id_octets}
+use Rattle.type_trees.specs.Trees.{Tree}
+use Rattle.type_trees.specs.Bridge.{shape}
+use Rattle.type_rules.specs.Valid.{type_fault}
+use Rattle.xt_io.specs.declared.Item.{Item}
+use Rattle.xt_io.specs.declared.Kind.TheVariants.{Sample}
+use Rattle.xcdr_model.specs.Assignable.{Assignable}
+use Rattle.xcdr_model.specs.Policies.{standard}
+use Rattle.xcdr_model.specs.Samples.{projection}
+use Rattle.xcdr_model.specs.SampleSpelling.{IsSample}
+use Rattle.hex.specs.Hex.{IsBytes}
+use Rattle.xt_recorder.specs.Streams.{stream_text, stream_of}
+use Rattle.xt_recorder.specs.Replays.{State, Stream, nothing, reads, replay_from}
+
+-- ---- streams
+
+-- an identifier of a type: its kind, and 14 octets
+pub record IsId (id : HashId) : Type 0 where
+  pub kind : is_object_kind id.kind ≡ true
+  pub count : length id.hash ≡ 14
+  pub octets : IsBytes (id_octets id)
+
+-- A stream's text says its identifier and its representation, and no other text does.
+abbrev pub StreamTold : Type 0
+StreamTold = (id : HashId) (rep : Rep) → IsId id → stream_of (stream_text id rep) ≡ Some (id, rep)
+
+abbrev pub StreamOnly : Type 0
+StreamOnly = (payload : List ℕ) (id : HashId) (rep : Rep) → stream_of payload ≡ Some (id, rep) → payload ≡ stream_text id rep
+
+-- ---- replay
+
+-- each record is a sample that spells its value
+abbrev pub Spell : Rep → Shape → List Item → List Val → Type 0
+Spell rep t [] [] = Unit {0}
+Spell rep t [] (v ∷ vs) = ⊥
+Spell rep t (item ∷ items) [] = ⊥
+Spell rep t (item ∷ items) (v ∷ vs) = (item.kind ≡ Sample) × IsSample rep t v item.payload × Spell rep t items vs
+
+-- Samples of a stream from whose type the reader's is assignable are replayed as the projections of what they spell.
+abbrev pub SamplesProjected : Type 0
+SamplesProjected = (reader t : Tree) (s : State) (st : Stream) (items : List Item) (vs : List Val) → type_fault reader ≡ None → type_fault t ≡ None → Assignable standard st.rep (shape reader) (shape t)
+    → s.stream ≡ Some st → st.yes ≡ true → Spell st.rep (shape t) items vs → replay_from reader s items ≡ (map (λ v. reads (projection (shape reader) (shape t) v)) vs, None)
+
+abbrev pub AreSamples : List Item → Type 0
+AreSamples [] = Unit {0}
+AreSamples (item ∷ items) = (item.kind ≡ Sample) × AreSamples items
+
+-- Of samples of a stream from whose type the reader's isn't assignable nothing is told.
+abbrev pub NoPassed : Type 0
+NoPassed = (reader : Tree) (s : State) (st : Stream) (items : List Item) → s.stream ≡ Some st → st.yes ≡ false → AreSamples items → replay_from reader s items ≡ (map (λ item. nothing) items, None)

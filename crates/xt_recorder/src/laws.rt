@@ -1,0 +1,27 @@
+//! What holds of recordings: each function has an empty body, or calls the laws that it follows from, and its contract is the law.
+ghost use Rattle.xt_recorder.specs.Laws as law;
+
+use type_rules::shape_keeps_rules;
+
+/// A stream's Note says its identifier and its representation.
+pub fn stream_told()
+    ensures { law.StreamTold }
+{}
+
+/// No other payload says them.
+pub fn stream_only()
+    ensures { law.StreamOnly }
+{}
+
+/// Where the reader's type is assignable from a stream's, its samples are replayed as the projections of the values that they spell.
+pub fn samples_projected()
+    ensures { law.SamplesProjected }
+{
+    shape_keeps_rules();
+    shape_laws::cross_sample();
+}
+
+/// Where it isn't, nothing is told of them.
+pub fn no_passed()
+    ensures { law.NoPassed }
+{}
