@@ -4,3 +4,4 @@ pub mod Replays
 pub mod Answers
 pub mod Replaying
 pub mod Laws
+pub mod Worked
