@@ -3,10 +3,12 @@ use crate::{ReplayFault, Replayed, Replayer, closed, write_stream};
 use assignability::Verdict;
 use object_walks::resolve;
 use settled_parts::Outcome;
-use std::test::Fail;
+use std::alloc::Global;
+use std::process::Abort;
 use type_object::Pool;
-use type_trees::as_struct;
-use xt_io::{BundleReader, Kind, MemSink, SureSource, write_record};
+use type_rules::check_type;
+use type_trees::{HashId, as_struct};
+use xt_io::{BundleReader, Item, Kind, MemSink, SureSource, write_record};
 use xt_shapes::Rep;
 
 /// The complete object of `@final struct C{long color;};`.
@@ -22,58 +24,71 @@ const WHOLE: [u8; 8] = [0x00, 0x07, 0x00, 0x00, 0x05, 0x00, 0x00, 0x00];
 
 const CUT: [u8; 6] = [0x00, 0x07, 0x00, 0x00, 0x05, 0x00];
 
-#[test]
-fn what_is_recorded_is_replayed(rt: HostRuntime) -> Result<(), Fail> {
-    let alloc = rt.alloc();
-    let mut pool = Pool::new(alloc);
-    let id = pool.add(&COMPLETE)?;
-    let ty = resolve(alloc, &pool, &id)?;
-    let ids = closed(alloc, &pool, &id)?;
-    assert!(rt; ids.as_slice() == [id].as_slice());
-    let mut sink = MemSink::new(alloc, 4096, &[]);
-    write_stream(alloc, &pool, &id, Rep::Xcdr2, &mut sink)?;
-    assert!(rt; write_record(&mut sink, Kind::Sample, &WHOLE).is_ok());
-    assert!(rt; write_record(&mut sink, Kind::Sample, &CUT).is_ok());
-    // an Object record of 61 octets, a Note of 48, and the samples
-    assert_eq!(rt; sink.octets().len(), 133);
+// Writes a recording of that type with the two samples.
+fn record(rt: &impl Abort, alloc: Global, pool: &Pool, id: &HashId, sink: &mut MemSink<'_>) {
+    let _ty = resolve(alloc, pool, id).expect(rt, "the type resolves");
+    let ids = closed(alloc, pool, id).expect(rt, "the closure is listed");
+    assert!(rt; ids.as_slice() == [*id].as_slice());
+    assert!(rt; write_stream(alloc, pool, id, Rep::Xcdr2, sink).is_ok());
+    assert!(rt; write_record(sink, Kind::Sample, &WHOLE).is_ok());
+    assert!(rt; write_record(sink, Kind::Sample, &CUT).is_ok());
+}
 
+fn next(rt: &impl Abort, alloc: Global, reader: &mut BundleReader<SureSource<'_>>) -> Item {
+    reader.next_item(alloc).expect(rt, "a record is read").expect(rt, "a record is there")
+}
+
+// What a record comes to, in a word.
+fn word(replayed: &Result<Replayed, ReplayFault>) -> &'static str {
+    match replayed {
+        Ok(Replayed::Nothing) => "nothing",
+        Ok(Replayed::Stream { verdict, .. }) => match verdict {
+            Verdict::Yes => "yes",
+            Verdict::No { .. } => "no",
+        },
+        Ok(Replayed::Read(Outcome::Sample(_))) => "sample",
+        Ok(Replayed::Read(_)) => "no sample",
+        Ok(Replayed::Malformed { .. }) => "malformed",
+        Err(ReplayFault::Misplaced) => "misplaced",
+        Err(_) => "refused",
+    }
+}
+
+// Replays the recording: the object, the stream, and the samples, of which one is tried before the stream begins.
+fn replay(rt: &impl Abort, alloc: Global, replayer: &mut Replayer, octets: &[u8]) {
+    let mut reader = BundleReader::new(SureSource::new(octets));
+    let object = next(rt, alloc, &mut reader);
+    let note = next(rt, alloc, &mut reader);
+    let whole = next(rt, alloc, &mut reader);
+    let cut = next(rt, alloc, &mut reader);
+    assert!(rt; word(&replayer.take(alloc, &object)) == "nothing");
+    assert!(rt; word(&replayer.take(alloc, &whole)) == "misplaced");
+    assert!(rt; word(&replayer.take(alloc, &note)) == "yes");
+    assert!(rt; word(&replayer.take(alloc, &whole)) == "sample");
+    assert!(rt; word(&replayer.take(alloc, &cut)) == "malformed");
+}
+
+// A reader by the type of the object.
+fn reader_of(rt: &impl Abort, alloc: Global, pool: &Pool, id: &HashId) -> Replayer {
+    let ty = resolve(alloc, pool, id).expect(rt, "the type resolves");
+    if check_type(&ty).is_err() {
+        panic!(rt; "no valid type");
+    }
     if as_struct(&ty).is_none() {
         panic!(rt; "no structure");
     }
-    let mut replayer = Replayer::new(ty, Pool::new(alloc));
-    let mut reader = BundleReader::new(SureSource::new(sink.octets()));
-    let Some(object) = reader.next_item(alloc)? else {
-        panic!(rt; "no object");
-    };
-    let Replayed::Nothing = replayer.take(alloc, &object)? else {
-        panic!(rt; "an object is told");
-    };
-    let Some(note) = reader.next_item(alloc)? else {
-        panic!(rt; "no stream");
-    };
-    let Some(whole) = reader.next_item(alloc)? else {
-        panic!(rt; "no sample");
-    };
-    let Err(ReplayFault::Misplaced) = replayer.take(alloc, &whole) else {
-        panic!(rt; "a sample before the first stream is taken");
-    };
-    let Replayed::Stream {
-        id: of,
-        rep: Rep::Xcdr2,
-        verdict: Verdict::Yes,
-    } = replayer.take(alloc, &note)?
-    else {
-        panic!(rt; "no stream begins");
-    };
-    assert_eq!(rt; of, id);
-    let Replayed::Read(Outcome::Sample(_)) = replayer.take(alloc, &whole)? else {
-        panic!(rt; "the sample is not read");
-    };
-    let Some(cut) = reader.next_item(alloc)? else {
-        panic!(rt; "no second sample");
-    };
-    let Replayed::Malformed { at: 4, .. } = replayer.take(alloc, &cut)? else {
-        panic!(rt; "the cut sample is read");
-    };
-    Ok(())
+    Replayer::new(ty, Pool::new(alloc))
+}
+
+#[test]
+fn what_is_recorded_is_replayed(rt: HostRuntime) {
+    let alloc = rt.alloc();
+    let mut pool = Pool::new(alloc);
+    let id = pool.add(&COMPLETE).expect(&rt, "the object is added");
+    let mut sink = MemSink::new(alloc, 4096, &[]);
+    record(&rt, alloc, &pool, &id, &mut sink);
+    // an Object record of 61 octets, a Note of 48, and the samples
+    assert_eq!(rt; sink.octets().len(), 133);
+    let mut replayer = reader_of(&rt, alloc, &pool, &id);
+    replay(&rt, alloc, &mut replayer, sink.octets());
 }
