@@ -35,7 +35,10 @@ fn record(rt: &impl Abort, alloc: Global, pool: &Pool, id: &HashId, sink: &mut M
 }
 
 fn next(rt: &impl Abort, alloc: Global, reader: &mut BundleReader<SureSource<'_>>) -> Item {
-    reader.next_item(alloc).expect(rt, "a record is read").expect(rt, "a record is there")
+    reader
+        .next_item(alloc)
+        .expect(rt, "a record is read")
+        .expect(rt, "a record is there")
 }
 
 // What a record comes to, in a word.
