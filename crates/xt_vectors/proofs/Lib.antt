@@ -1,0 +1,4 @@
+pub mod Courses
+pub mod Loops
+pub mod Readings
+pub mod Slots

@@ -1,0 +1,9 @@
+pub mod Draws
+pub mod Plans
+pub mod Readers
+pub mod Types
+pub mod Values
+pub mod Pairs
+pub mod Findings
+pub mod Runs
+pub mod Worked
