@@ -2,6 +2,6 @@
 //! and octets of values and samples. The crate gathers what the crates below it have; their own pages say how each is defined and proved.
 #![tactic(auto)]
 
-pub use xcdr_one_writer::{encode1, size1, write_sample1};
 pub use xcdr_reader::decode1;
 pub use xcdr_samples::read_sample1;
+pub use xcdr_written::{encode1, size1, write_sample1};
