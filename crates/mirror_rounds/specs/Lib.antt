@@ -1,0 +1,5 @@
+pub mod Rounds
+pub mod FrameFaults
+pub mod Pushes
+pub mod Tells
+pub mod Worked

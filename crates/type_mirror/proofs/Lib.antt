@@ -1,0 +1,4 @@
+pub mod Going
+pub mod Requesting
+pub mod Settling
+pub mod Pushable

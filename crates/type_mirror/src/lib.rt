@@ -1,0 +1,14 @@
+//! Two registries made equal: a push of objects to a peer by putTypes, which is this profile's own, and getTypes (DDS-XTypes 1.3, 7.6.3.3),
+//! and pairs of sides that hand each other their objects.
+#![tactic(auto)]
+
+mod pushes;
+mod replies;
+mod requests;
+mod rounds;
+#[cfg(test)]
+mod tests;
+
+pub use mirror_pairs::{Gave, Give, Pair, Side, pairs_agree};
+pub use mirror_rounds::{PushFault, Told, What, pushes_tell};
+pub use pushes::push;
