@@ -1,14 +1,17 @@
 -- What each command writes behind the front of its bundle (this profile's own).
-use Rattle.std.specs.Prelude.{ℕ, List, [], ◌∷◌, Result, Ok, codes}
+use Rattle.std.specs.Prelude.{ℕ, List, [], ◌∷◌, None, Result, Ok, codes}
 use Rattle.xt_io.specs.declared.Item.{Item}
 use Rattle.xt_io.specs.declared.Kind.TheVariants.{Sample, Json}
 use Rattle.xt_io.specs.Bundles.{Bundle}
 use Rattle.xt_shapes.specs.declared.leaves.Rep.{Rep}
 use Rattle.tool_output.specs.declared.ending.Style.TheVariants.{Lines, Records}
-use Rattle.tool_output.specs.Outputs.{Output, Refusal, ◌>>=◌, run, taking, finished}
+use Rattle.tool_output.specs.Outputs.{Output, Refusal, ◌>>=◌, after_pieces, run, taking, finished}
 use Rattle.tool_lines.specs.Lines.{read_turn, convert_turn, write_turn}
+use Rattle.tool_instances.specs.Instancing.{instances_body}
 use Rattle.tool_words.specs.Words.{Pair, Reference}
-use Rattle.tool_verdicts.specs.Verdicts.{reader_type, top_type}
+use Rattle.tool_verdicts.specs.Verdicts.{id_and_pool, reader_type, top_and_pool, top_type}
+use Rattle.tool_recordings.specs.Recording.{opening_pieces, samples_recorded}
+use Rattle.tool_recordings.specs.Replaying.{replayed}
 
 -- `judge`: one line, where the reader's type is assignable
 abbrev pub judge_lines : Pair → List Item → Result (List (List ℕ)) Refusal
@@ -25,3 +28,15 @@ convert_records pair to records = reader_type pair records >>= λ t. Ok (λ k bo
 -- `write`: a sample for each value in JSON
 abbrev pub write_records : Reference → Rep → List Item → Result (ℕ → Bundle → Output) Refusal
 write_records r rep records = top_type r records >>= λ t. Ok (λ k body. run Records (taking Json (write_turn rep t)) (λ (u : Unit {0}). finished) tt k body)
+
+-- `record`: the objects of the writer's type and the Note of its stream, and then each sample as it is
+abbrev pub record_records : Reference → Rep → List Item → Result (ℕ → Bundle → Output) Refusal
+record_records r rep records = id_and_pool r records >>= λ found. Ok (λ k body. after_pieces (opening_pieces found.1 found.0 rep) (samples_recorded k body))
+
+-- `replay`: a line for each stream, and for each sample of those that the reader's type is assignable from
+abbrev pub replay_lines : Reference → List Item → Result (ℕ → Bundle → Output) Refusal
+replay_lines r records = top_and_pool r records >>= λ found. Ok (λ k body. replayed found.0 (record { pool = found.1; stream = None }) k body)
+
+-- `instances`: at the end of the input the last values of each key
+abbrev pub instances_lines : Pair → ℕ → List Item → Result (ℕ → Bundle → Output) Refusal
+instances_lines pair depth records = reader_type pair records >>= λ t. Ok (λ k body. instances_body depth pair.rep t [] k body)

@@ -1,2 +1,3 @@
 pub mod Commands
 pub mod Wrapping
+pub mod Making

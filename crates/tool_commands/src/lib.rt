@@ -2,11 +2,19 @@
 #![tactic(auto)]
 
 mod judging;
+mod keeping;
+mod making;
 mod reading;
+mod recording;
+mod replaying;
 mod wrapping;
 mod writing;
 
 pub use judging::Judging;
+pub use keeping::Keeping;
+pub use making::make;
 pub use reading::{Converting, Reading};
+pub use recording::Recording;
+pub use replaying::Replaying;
 pub use wrapping::wrap;
 pub use writing::Writing;

@@ -1,5 +1,7 @@
-ghost use Rattle.std.specs.Prelude.{◌≡◌, ◌≤◌, length};
-ghost use Rattle.tool_output.specs.Runs.{Comes};
+ghost use Rattle.std.specs.Prelude.{◌≡◌, ◌≤◌, ℕ, [], Some, length};
+ghost use Rattle.xt_io.specs.Bundles.{nothing};
+ghost use Rattle.tool_output.specs.Outputs.{Output, after_pieces, finished};
+ghost use Rattle.tool_output.specs.Runs.{Comes, Steps, StopsWriting};
 ghost use Rattle.tool_front.specs.Reading.{AreWithin};
 ghost use Rattle.tool_words.specs.View.{pair_view};
 ghost use Rattle.tool_commands.specs.Commands.{convert_records, read_lines};
@@ -10,7 +12,7 @@ use tool_runs::Prepares;
 use tool_samples::{Conversions, Lines, Samples};
 use tool_verdicts::reader_type;
 use tool_words::Pair;
-use xt_io::Item;
+use xt_io::{Item, Sink};
 use xt_shapes::Rep;
 
 /// A line for each sample, as the reader's type sees it.
@@ -23,11 +25,11 @@ impl<'a> Prepares for Reading<'a> {
     ghost use Rattle.type_trees.specs.View.{tree};
     ghost use Rattle.xt_io.specs.declared.Kind.TheVariants.{Sample};
     ghost use Rattle.tool_output.specs.declared.ending.Style.TheVariants as styles;
-    ghost use Rattle.tool_output.specs.Outputs.{finished, taking};
-    ghost use Rattle.tool_output.proofs.Turning.{run_at_end};
     ghost use Rattle.tool_lines.specs.Lines.{read_turn};
 
     type Run = Samples<Lines>;
+
+    ghost opening = { λ run. [] };
 
     ghost prepared = { λ s records. read_lines (pair_view s.pair) records };
 
@@ -40,7 +42,7 @@ impl<'a> Prepares for Reading<'a> {
     fn prepare(&self, alloc: Global, records: &[Item]) -> Result<Samples<Lines>, Stop>
         requires few { length records.now ≤ 1048576 }
         requires within { AreWithin records.now }
-        ensures { Comes (read_lines (pair_view self.now.pair) records.now) ⟦<Samples<Lines> as Turns>⟧.to_write result }
+        ensures { Comes (read_lines (pair_view self.now.pair) records.now) (λ run number body. ⟦<Samples<Lines> as Turns>⟧.to_write run number body) result }
     {
         match reader_type(alloc, &self.pair, records) {
             Err(stop) => Err(stop),
@@ -48,7 +50,23 @@ impl<'a> Prepares for Reading<'a> {
         }
     }
 
-    ghost ends = { λ run number. run_at_end styles.Lines (taking Sample (read_turn run.rep (tree run.ty))) (λ u. finished) tt number };
+    #[tactic(auto, using(crate::proofs::Quiet::before))]
+    fn begin<K: Sink>(_run: &Samples<Lines>, _alloc: Global, _sink: &mut K) -> Result<(), Stop>
+        ensures steps { (rest : Output) → Steps Style.Lines (Some (after_pieces [] rest)) (Some rest) result (K.taken _sink.old) (K.taken _sink.new) }
+        ensures stops { StopsWriting (K.faults _sink.old) (K.faults _sink.new) result }
+        ensures same { K.name _sink.new ≡ K.name _sink.old }
+    {
+        Ok(())
+    }
+
+    #[tactic(auto, using(crate::proofs::Quiet::behind))]
+    fn end<K: Sink>(_run: &Samples<Lines>, _alloc: Global, _sink: &mut K) -> Result<(), Stop>
+        ensures steps { (number : ℕ) → Steps Style.Lines (Some (⟦<Samples<Lines> as Turns>⟧.to_write _run.now number nothing)) (Some finished) result (K.taken _sink.old) (K.taken _sink.new) }
+        ensures stops { StopsWriting (K.faults _sink.old) (K.faults _sink.new) result }
+        ensures same { K.name _sink.new ≡ K.name _sink.old }
+    {
+        Ok(())
+    }
 }
 
 /// A sample of the reader's type for each sample, in that or another representation.
@@ -62,11 +80,11 @@ impl<'a> Prepares for Converting<'a> {
     ghost use Rattle.type_trees.specs.View.{tree};
     ghost use Rattle.xt_io.specs.declared.Kind.TheVariants.{Sample};
     ghost use Rattle.tool_output.specs.declared.ending.Style.TheVariants as styles;
-    ghost use Rattle.tool_output.specs.Outputs.{finished, taking};
-    ghost use Rattle.tool_output.proofs.Turning.{run_at_end};
     ghost use Rattle.tool_lines.specs.Lines.{convert_turn};
 
     type Run = Samples<Conversions>;
+
+    ghost opening = { λ run. [] };
 
     ghost prepared = { λ s records. convert_records (pair_view s.pair) s.to records };
 
@@ -79,7 +97,7 @@ impl<'a> Prepares for Converting<'a> {
     fn prepare(&self, alloc: Global, records: &[Item]) -> Result<Samples<Conversions>, Stop>
         requires few { length records.now ≤ 1048576 }
         requires within { AreWithin records.now }
-        ensures { Comes (convert_records (pair_view self.now.pair) self.now.to records.now) ⟦<Samples<Conversions> as Turns>⟧.to_write result }
+        ensures { Comes (convert_records (pair_view self.now.pair) self.now.to records.now) (λ run number body. ⟦<Samples<Conversions> as Turns>⟧.to_write run number body) result }
     {
         match reader_type(alloc, &self.pair, records) {
             Err(stop) => Err(stop),
@@ -87,5 +105,25 @@ impl<'a> Prepares for Converting<'a> {
         }
     }
 
-    ghost ends = { λ run number. run_at_end styles.Records (taking Sample (convert_turn run.rep run.form.to (tree run.ty))) (λ u. finished) tt number };
+    #[tactic(auto, using(crate::proofs::Quiet::before))]
+    fn begin<K: Sink>(
+        _run: &Samples<Conversions>,
+        _alloc: Global,
+        _sink: &mut K,
+    ) -> Result<(), Stop>
+        ensures steps { (rest : Output) → Steps Style.Records (Some (after_pieces [] rest)) (Some rest) result (K.taken _sink.old) (K.taken _sink.new) }
+        ensures stops { StopsWriting (K.faults _sink.old) (K.faults _sink.new) result }
+        ensures same { K.name _sink.new ≡ K.name _sink.old }
+    {
+        Ok(())
+    }
+
+    #[tactic(auto, using(crate::proofs::Quiet::behind))]
+    fn end<K: Sink>(_run: &Samples<Conversions>, _alloc: Global, _sink: &mut K) -> Result<(), Stop>
+        ensures steps { (number : ℕ) → Steps Style.Records (Some (⟦<Samples<Conversions> as Turns>⟧.to_write _run.now number nothing)) (Some finished) result (K.taken _sink.old) (K.taken _sink.new) }
+        ensures stops { StopsWriting (K.faults _sink.old) (K.faults _sink.new) result }
+        ensures same { K.name _sink.new ≡ K.name _sink.old }
+    {
+        Ok(())
+    }
 }

@@ -1,5 +1,7 @@
-ghost use Rattle.std.specs.Prelude.{◌≡◌, ◌≤◌, length};
-ghost use Rattle.tool_output.specs.Runs.{Comes};
+ghost use Rattle.std.specs.Prelude.{◌≡◌, ◌≤◌, ℕ, [], Some, length};
+ghost use Rattle.xt_io.specs.Bundles.{nothing};
+ghost use Rattle.tool_output.specs.Outputs.{Output, after_pieces, finished};
+ghost use Rattle.tool_output.specs.Runs.{Comes, Steps, StopsWriting};
 ghost use Rattle.tool_front.specs.Reading.{AreWithin};
 ghost use Rattle.tool_words.specs.View.{reference_view};
 ghost use Rattle.tool_commands.specs.Commands.{write_records};
@@ -10,7 +12,7 @@ use tool_runs::Prepares;
 use tool_values::Values;
 use tool_verdicts::top_type;
 use tool_words::Reference;
-use xt_io::Item;
+use xt_io::{Item, Sink};
 use xt_shapes::Rep;
 
 /// A sample for each value in JSON, in a representation.
@@ -24,11 +26,11 @@ impl<'a> Prepares for Writing<'a> {
     ghost use Rattle.type_trees.specs.View.{tree};
     ghost use Rattle.xt_io.specs.declared.Kind.TheVariants.{Json};
     ghost use Rattle.tool_output.specs.declared.ending.Style.TheVariants as styles;
-    ghost use Rattle.tool_output.specs.Outputs.{finished, taking};
-    ghost use Rattle.tool_output.proofs.Turning.{run_at_end};
     ghost use Rattle.tool_lines.specs.Lines.{write_turn};
 
     type Run = Values;
+
+    ghost opening = { λ run. [] };
 
     ghost prepared = { λ s records. write_records (reference_view s.reference) s.rep records };
 
@@ -41,7 +43,7 @@ impl<'a> Prepares for Writing<'a> {
     fn prepare(&self, alloc: Global, records: &[Item]) -> Result<Values, Stop>
         requires few { length records.now ≤ 1048576 }
         requires within { AreWithin records.now }
-        ensures { Comes (write_records (reference_view self.now.reference) self.now.rep records.now) ⟦<Values as Turns>⟧.to_write result }
+        ensures { Comes (write_records (reference_view self.now.reference) self.now.rep records.now) (λ run number body. ⟦<Values as Turns>⟧.to_write run number body) result }
     {
         match top_type(alloc, &self.reference, records) {
             Err(stop) => Err(stop),
@@ -49,5 +51,21 @@ impl<'a> Prepares for Writing<'a> {
         }
     }
 
-    ghost ends = { λ run number. run_at_end styles.Records (taking Json (write_turn run.rep (tree run.ty))) (λ u. finished) tt number };
+    #[tactic(auto, using(crate::proofs::Quiet::before))]
+    fn begin<K: Sink>(_run: &Values, _alloc: Global, _sink: &mut K) -> Result<(), Stop>
+        ensures steps { (rest : Output) → Steps Style.Records (Some (after_pieces [] rest)) (Some rest) result (K.taken _sink.old) (K.taken _sink.new) }
+        ensures stops { StopsWriting (K.faults _sink.old) (K.faults _sink.new) result }
+        ensures same { K.name _sink.new ≡ K.name _sink.old }
+    {
+        Ok(())
+    }
+
+    #[tactic(auto, using(crate::proofs::Quiet::behind))]
+    fn end<K: Sink>(_run: &Values, _alloc: Global, _sink: &mut K) -> Result<(), Stop>
+        ensures steps { (number : ℕ) → Steps Style.Records (Some (⟦<Values as Turns>⟧.to_write _run.now number nothing)) (Some finished) result (K.taken _sink.old) (K.taken _sink.new) }
+        ensures stops { StopsWriting (K.faults _sink.old) (K.faults _sink.new) result }
+        ensures same { K.name _sink.new ≡ K.name _sink.old }
+    {
+        Ok(())
+    }
 }

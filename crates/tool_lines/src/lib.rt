@@ -7,6 +7,6 @@ mod records;
 mod tests;
 mod verdicts;
 
-pub use outcomes::{malformed_text, outcome_text};
+pub use outcomes::{malformed_text, outcome_text, value_text};
 pub use records::sample_record;
 pub use verdicts::no_text;

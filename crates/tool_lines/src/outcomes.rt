@@ -11,7 +11,8 @@ use type_trees::{Value, XType};
 use xcdr_model::Why;
 use xt_lists::{OutOfMemory, Text};
 
-fn value_text(alloc: Global, ty: &XType, value: &Value) -> Result<Text, OutOfMemory>
+/// `ok` and a value as JSON.
+pub fn value_text(alloc: Global, ty: &XType, value: &Value) -> Result<Text, OutOfMemory>
     requires { type_fault (tree ty.now) ≡ None }
     ensures { IfOk result (λ text. text ≡ lines.value_text (tree ty.now) (val value.now)) }
 {

@@ -1,1 +1,1 @@
-pub mod Meant
+pub mod Soundness

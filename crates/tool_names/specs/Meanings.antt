@@ -1,10 +1,11 @@
 -- What the program's meanings stand for.
-use Rattle.std.specs.Prelude.{◌≡◌}
+use Rattle.std.specs.Prelude.{◌≡◌, true}
 use Rattle.type_trees.specs.View.{tree}
 use Rattle.projection_laws.specs.Premises.{IsValid}
 use Rattle.object_walks.specs.declared.resolving.ResolveFault.{ResolveFault}
 use Rattle.object_walks.specs.declared.resolving.ResolveFault.TheVariants as faults
 use Rattle.object_walks.specs.Resolving as walks
+use Rattle.type_resolve.specs.Objects.{has_objects}
 use Rattle.tool_output.specs.declared.halt.Halt.TheVariants as halts
 use Rattle.tool_output.specs.declared.stop.Stop.{Stop}
 use Rattle.tool_output.specs.declared.stop.Stop.TheVariants as stops
@@ -14,12 +15,12 @@ use Rattle.tool_names.specs.declared.meanings.Meaning.TheVariants.{Typed, Identi
 use Rattle.tool_names.specs.Names as spec
 
 abbrev pub meaning_view : Meaning → spec.Meaning
-meaning_view (Typed ty) = spec.typed (tree ty.now)
+meaning_view (Typed named) = spec.typed (tree named.now.ty)
 meaning_view (Identified id) = spec.identified id
 
--- a declared type is valid
+-- a declared type is valid, and has objects of its own
 abbrev pub IsSound : Meaning → Type 0
-IsSound (Typed ty) = IsValid ty.now
+IsSound (Typed named) = IsValid named.now.ty × (has_objects (tree named.now.ty) ≡ true)
 IsSound (Identified id) = Unit {0}
 
 -- what the fault of a walk says

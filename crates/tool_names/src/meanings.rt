@@ -9,13 +9,13 @@ ghost use Rattle.tool_names.specs.Meanings.{IsSound, meaning_view};
 use tool_types::Declared;
 use tool_words::Form;
 use type_object::Pool;
-use type_trees::{HashId, Named, XType};
+use type_trees::{HashId, Named};
 use xt_lists::Text;
 
 /// What is meant: a type that a text declares, or what an identifier stands for.
 #[derive(Clone, Copy)]
 pub enum Meaning<'a> {
-    Typed(&'a XType),
+    Typed(&'a Named),
     Identified(HashId),
 }
 
@@ -27,7 +27,7 @@ fn typed_as<'a>(name: &[u8], types: &'a [Named]) -> Option<Meaning<'a>>
 {
     for named in types {
         if named.name.octets() == name {
-            return Some(Meaning::Typed(&named.ty));
+            return Some(Meaning::Typed(named));
         }
     }
     None

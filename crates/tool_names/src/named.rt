@@ -1,4 +1,4 @@
-ghost use Rattle.std.specs.Prelude.{◌≡◌, IfOk, IfSome, map};
+ghost use Rattle.std.specs.Prelude.{◌≡◌, IfOk, IfSome, OnOk, map, true};
 ghost use Rattle.std.specs.Option.{option_map};
 ghost use Rattle.projection_laws.specs.Premises.{IsValid};
 ghost use Rattle.type_trees.specs.View.{tree};
@@ -53,7 +53,7 @@ fn type_meant(
 {
     match meaning {
         None => Err(refuse_name(alloc, word)),
-        Some(Meaning::Typed(ty)) => type_declared(alloc, ty),
+        Some(Meaning::Typed(named)) => type_declared(alloc, &named.ty),
         Some(Meaning::Identified(id)) => type_resolved(alloc, id, pool),
     }
 }
@@ -91,7 +91,8 @@ fn is_top(ty: &XType) -> bool
 }
 
 fn topped(alloc: Global, word: &[u8], ty: &XType) -> Result<(), Stop>
-    ensures { Comes (spec.topped word.now (tree ty.now)) (λ u. u) result }
+    ensures comes { Comes (spec.topped word.now (tree ty.now)) (λ u. u) result }
+    ensures top { OnOk result (spec.is_top (type_shape ty.now) ≡ true) }
 {
     if is_top(ty) {
         Ok(())
@@ -110,6 +111,7 @@ pub fn top_named(
     requires { AllGood records.now }
     ensures comes { Comes (spec.top_named (reference_view reference.now) (map declared_view records.now, pool.now)) tree result }
     ensures valid { IfOk result IsValid }
+    ensures top { IfOk result (λ ty. spec.is_top (type_shape ty) ≡ true) }
 {
     match type_named(alloc, reference, records, pool) {
         Err(stop) => Err(stop),

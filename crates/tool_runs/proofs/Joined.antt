@@ -6,7 +6,7 @@ use Rattle.std.specs.Option.{option_map}
 use Rattle.std.specs.Io.KnownBytes.{Appends}
 use Rattle.std.proofs.KnownBytes.{Appends-nil}
 use Rattle.xt_io.specs.declared.Item.{Item}
-use Rattle.xt_io.specs.Bundles.{Bundle, nothing}
+use Rattle.xt_io.specs.Bundles.{Bundle}
 use Rattle.xt_io.specs.Outside.{AppendsPrefix}
 use Rattle.xt_io.specs.Readers.{Reading}
 use Rattle.tool_output.specs.declared.ending.Ending.{Ending}
@@ -81,21 +81,28 @@ prepared_goes style prepared records write (Some body) result old new p q =
     let written : Result (ℕ → Bundle → Output) Refusal → Output = λ found. unless_refused style (found >>= λ w. Ok (w (length records) body)) in
     subst (λ (o : Output). Writes (Some o) result old new) (sym (ap written p)) q
 
--- the body was read to its end
-pub ran_done : (style : Style) (prepared : List Item → Result (ℕ → Bundle → Output) Refusal) (records : List Item) (write last : ℕ → Bundle → Output) (n k : ℕ) (body : Option Bundle) (r : Result ℕ Stop) (old new : Option (List ℕ)) → prepared records ≡ Ok write → n ≡ length records → ((i : ℕ) → last i nothing ≡ finished)
-    → Steps style (option_map (write n) body) (at_number (λ i. last i nothing) r) r old new → r ≡ Ok k → Writes (option_map (λ b. unless_refused style (with_body prepared records b)) body) (Ok Done) old new
-ran_done style prepared records write last n k body r old new e count ends steps is =
-    let lead = subst (λ (x : Result ℕ Stop). Steps style (option_map (write n) body) (at_number (λ i. last i nothing) x) x old new) is steps in
-    let done = all_done (option_map (write n) body) (last k nothing) old new (ends k) lead in
-    prepared_goes style prepared records write body (Ok Done) old new e (subst (λ (x : ℕ). Writes (option_map (write x) body) (Ok Done) old new) count done)
+-- what comes before the body was written, and then the body
+pub opening_went : (pieces : List (List ℕ)) (write : Bundle → Output) (body : Option Bundle) (result : Result Ending Halt) (old mid new : Option (List ℕ)) → ((rest : Output) → Leads (Some (after_pieces pieces rest)) (Some rest) old mid) → Writes (option_map write body) result mid new
+    → Writes (option_map (λ b. after_pieces pieces (write b)) body) result old new
+opening_went pieces write None result old mid new p q = tt
+opening_went pieces write (Some body) result old mid new p q = writes_on (Some (after_pieces pieces (write body))) (Some (write body)) result old mid new (p (write body)) q
+
+-- it stopped
+pub opening_stopped : (style : Style) (pieces : List (List ℕ)) (write : Bundle → Output) (body : Option Bundle) (stop : Stop) (result : Result Ending Halt) (old mid new : Option (List ℕ)) → ((rest : Output) → Steps {T = Unit {0}} style (Some (after_pieces pieces rest)) (Some rest) (Err stop) old mid) → Concludes style stop result mid new
+    → Writes (option_map (λ b. after_pieces pieces (write b)) body) result old new
+opening_stopped style pieces write None stop result old mid new p q = tt
+opening_stopped style pieces write (Some body) stop result old mid new p q = concluded (Unit {0}) style (Some (after_pieces pieces (write body))) (Some (write body)) stop result old mid new (p (write body)) q
+
+-- the body was read to its end, and then the rest was written
+pub turns_ended : (style : Style) (first : Option Output) (last : ℕ → Output) (k : ℕ) (r : Result ℕ Stop) (result : Result Ending Halt) (old mid new : Option (List ℕ)) → Steps style first (at_number last r) r old mid → r ≡ Ok k → ((i : ℕ) → Writes (Some (last i)) result mid new) → Writes first result old new
+turns_ended style first last k r result old mid new steps is ends =
+    let lead = subst (λ (x : Result ℕ Stop). Steps style first (at_number last x) x old mid) is steps in
+    writes_on first (Some (last k)) result old mid new lead (ends k)
 
 -- a turn stopped
-pub ran_stopped : (style : Style) (prepared : List Item → Result (ℕ → Bundle → Output) Refusal) (records : List Item) (write : ℕ → Bundle → Output) (n : ℕ) (body : Option Bundle) (rest : Option Output) (r : Result ℕ Stop) (stop : Stop) (result : Result Ending Halt) (old mid new : Option (List ℕ)) → prepared records ≡ Ok write → n ≡ length records
-    → Steps style (option_map (write n) body) rest r old mid → r ≡ Err stop → Concludes style stop result mid new → Writes (option_map (λ b. unless_refused style (with_body prepared records b)) body) result old new
-ran_stopped style prepared records write n body rest r stop result old mid new e count steps is ends =
-    let step = subst (λ (x : Result ℕ Stop). Steps style (option_map (write n) body) rest x old mid) is steps in
-    let wrote = concluded ℕ style (option_map (write n) body) rest stop result old mid new step ends in
-    prepared_goes style prepared records write body result old new e (subst (λ (x : ℕ). Writes (option_map (write x) body) result old new) count wrote)
+pub turns_stopped : (style : Style) (first rest : Option Output) (r : Result ℕ Stop) (stop : Stop) (result : Result Ending Halt) (old mid new : Option (List ℕ)) → Steps style first rest r old mid → r ≡ Err stop → Concludes style stop result mid new → Writes first result old new
+turns_stopped style first rest r stop result old mid new steps is ends =
+    concluded ℕ style first rest stop result old mid new (subst (λ (x : Result ℕ Stop). Steps style first rest x old mid) is steps) ends
 
 -- ---- nothing behind the front
 

@@ -3,7 +3,7 @@ ghost use Rattle.std.specs.Prelude.{◌≡◌, ◌≤◌, ◌+◌, ℕ, List, Ok
 ghost use Rattle.std.specs.List.{concat};
 ghost use Rattle.std.specs.Option.{option_map};
 ghost use Rattle.std.specs.Io.KnownBytes.{IsAtEnd};
-ghost use Rattle.xt_io.specs.Bundles.{bundle};
+ghost use Rattle.xt_io.specs.Bundles.{bundle, nothing};
 ghost use Rattle.tool_output.specs.Outputs.{Output, after_pieces, unless_refused};
 ghost use Rattle.tool_output.specs.Runs.{Halts, HaltsWriting, MayGo, Steps, StopsWriting, Writes, coming, turns_left};
 ghost use Rattle.tool_front.specs.Reading.{AreWithin};
@@ -13,16 +13,17 @@ ghost use Rattle.tool_runs.specs.Stopping.{Concludes, StopsSo};
 use crate::closing::close_body;
 use std::alloc::Global;
 use tool_front::{Front, read_front};
-use tool_output::{Ending, Halt, Stop, Style, Turns, last, run_body, say};
+use tool_output::{Ending, Halt, Next, Stop, Style, Turns, last, run_body, say};
 use xt_io::{BundleReader, Item, Sink, Source};
 
-/// What the records of a front come to before a body: a turn for each record that follows.
+/// What the records of a front come to before a body: what is written before it, a turn for each of its records, and what is written at its
+/// end.
 pub trait Prepares {
-    ghost use Rattle.std.specs.Prelude.{◌≡◌, ◌≤◌, ℕ, List, Result, length};
+    ghost use Rattle.std.specs.Prelude.{◌≡◌, ◌≤◌, ℕ, List, Result, Some, length};
     ghost use Rattle.xt_io.specs.declared.Item.{Item};
     ghost use Rattle.xt_io.specs.Bundles.{Bundle, nothing};
-    ghost use Rattle.tool_output.specs.Outputs.{Output, Refusal, finished};
-    ghost use Rattle.tool_output.specs.Runs.{Comes};
+    ghost use Rattle.tool_output.specs.Outputs.{Output, Refusal, after_pieces, finished};
+    ghost use Rattle.tool_output.specs.Runs.{Comes, Steps, StopsWriting};
     ghost use Rattle.tool_front.specs.Reading.{AreWithin};
 
     /// The turns.
@@ -30,6 +31,9 @@ pub trait Prepares {
 
     /// What is written of a body behind these records, or why the command is refused.
     ghost prepared: { Self → List Item → Result (ℕ → Bundle → Output) Refusal };
+
+    /// The pieces before the body.
+    ghost opening: { Self.Run → List (List ℕ) };
 
     /// Whether the turns write lines or records.
     fn style() -> Style
@@ -39,10 +43,19 @@ pub trait Prepares {
     fn prepare(&self, alloc: Global, records: &[Item]) -> Result<Self::Run, Stop>
         requires few { length records.now ≤ 1048576 }
         requires within { AreWithin records.now }
-        ensures { Comes (prepared self.now records.now) Self.Run.to_write result };
+        ensures { Comes (prepared self.now records.now) (λ run number body. after_pieces (opening run) (Self.Run.to_write run number body)) result };
 
-    /// At the end of the input nothing more is written.
-    ghost ends: { (run : Self.Run) (number : ℕ) → Self.Run.to_write run number nothing ≡ finished };
+    /// Writes the pieces before the body. A refusal is not written yet.
+    fn begin<K: Sink>(run: &Self::Run, alloc: Global, sink: &mut K) -> Result<(), Stop>
+        ensures steps { (rest : Output) → Steps Self.Run.style (Some (after_pieces (opening run.now) rest)) (Some rest) result (K.taken sink.old) (K.taken sink.new) }
+        ensures stops { StopsWriting (K.faults sink.old) (K.faults sink.new) result }
+        ensures same { K.name sink.new ≡ K.name sink.old };
+
+    /// Writes what is left at the end of the input. A refusal is not written yet.
+    fn end<K: Sink>(run: &Self::Run, alloc: Global, sink: &mut K) -> Result<(), Stop>
+        ensures steps { (number : ℕ) → Steps Self.Run.style (Some (Self.Run.to_write run.now number nothing)) (Some finished) result (K.taken sink.old) (K.taken sink.new) }
+        ensures stops { StopsWriting (K.faults sink.old) (K.faults sink.new) result }
+        ensures same { K.name sink.new ≡ K.name sink.old };
 }
 
 /// What the records of a front are answered with, where nothing follows them.
@@ -145,7 +158,7 @@ fn after_front<P: Prepares, S: Source, K: Sink>(
     }
 }
 
-// The turns behind a front.
+// What is written behind a front.
 fn take_body<P: Prepares, S: Source, K: Sink>(
     alloc: Global,
     command: &P,
@@ -166,14 +179,73 @@ fn take_body<P: Prepares, S: Source, K: Sink>(
     match command.prepare(alloc, records.as_slice()) {
         Err(stop) => (reader, stopped(alloc, P::style(), stop, sink)),
         Ok(run) => {
-            let mut turns = run;
             let number = records.len() as u32;
-            let (back, ran) = run_body(alloc, &mut turns, number, next, reader, sink);
-            match ran {
-                Ok(_) => (back, Ok(Ending::Done)),
-                Err(stop) => (back, stopped(alloc, P::style(), stop, sink)),
-            }
+            run_opened::<P, S, K>(alloc, run, number, next, reader, sink)
         }
+    }
+}
+
+// What is written before the body, and then the body.
+fn run_opened<P: Prepares, S: Source, K: Sink>(
+    alloc: Global,
+    run: P::Run,
+    number: u32,
+    next: Next,
+    reader: BundleReader<S>,
+    sink: &mut K,
+) -> (BundleReader<S>, Result<Ending, Halt>)
+    requires ready { MayGo next reader }
+    requires few { number + turns_left next reader.may_follow ≤ 1048576 }
+    ensures output { Writes (option_map (λ body. after_pieces (P.opening run) (P.Run.to_write run number body)) (coming next reader)) result.1 (K.taken sink.old) (K.taken sink.new) }
+    ensures ended { result.1 ≡ Ok Ending.Done → IsAtEnd result.0.left }
+    ensures halts { Halts reader.faults result.0.faults (K.faults sink.old) (K.faults sink.new) result.1 }
+    ensures same_source { result.0.name ≡ reader.name }
+    ensures same_sink { K.name sink.new ≡ K.name sink.old }
+{
+    match P::begin(&run, alloc, sink) {
+        Err(stop) => (reader, stopped(alloc, P::style(), stop, sink)),
+        Ok(()) => run_turns::<P, S, K>(alloc, run, number, next, reader, sink),
+    }
+}
+
+// The turns of a body, and what is written at its end.
+fn run_turns<P: Prepares, S: Source, K: Sink>(
+    alloc: Global,
+    run: P::Run,
+    number: u32,
+    next: Next,
+    reader: BundleReader<S>,
+    sink: &mut K,
+) -> (BundleReader<S>, Result<Ending, Halt>)
+    requires ready { MayGo next reader }
+    requires few { number + turns_left next reader.may_follow ≤ 1048576 }
+    ensures output { Writes (option_map (P.Run.to_write run number) (coming next reader)) result.1 (K.taken sink.old) (K.taken sink.new) }
+    ensures ended { result.1 ≡ Ok Ending.Done → IsAtEnd result.0.left }
+    ensures halts { Halts reader.faults result.0.faults (K.faults sink.old) (K.faults sink.new) result.1 }
+    ensures same_source { result.0.name ≡ reader.name }
+    ensures same_sink { K.name sink.new ≡ K.name sink.old }
+{
+    let mut turns = run;
+    let (back, ran) = run_body(alloc, &mut turns, number, next, reader, sink);
+    match ran {
+        Err(stop) => (back, stopped(alloc, P::style(), stop, sink)),
+        Ok(_) => (back, end_turns::<P, K>(alloc, &turns, sink)),
+    }
+}
+
+// What is written at the end of a body.
+fn end_turns<P: Prepares, K: Sink>(
+    alloc: Global,
+    turns: &P::Run,
+    sink: &mut K,
+) -> Result<Ending, Halt>
+    ensures output { (number : ℕ) → Writes (Some (P.Run.to_write turns.now number nothing)) result (K.taken sink.old) (K.taken sink.new) }
+    ensures halts { HaltsWriting (K.faults sink.old) (K.faults sink.new) result }
+    ensures same { K.name sink.new ≡ K.name sink.old }
+{
+    match P::end(turns, alloc, sink) {
+        Err(stop) => stopped(alloc, P::style(), stop, sink),
+        Ok(()) => Ok(Ending::Done),
     }
 }
 

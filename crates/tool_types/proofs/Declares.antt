@@ -125,13 +125,13 @@ pub record_on : (k : ℕ) (pool new : Texts) (item : Item) (items : List Item) (
     → after_declared (map declared_view records) (spec.declare k pool (item ∷ items)) ≡ after_declared (map declared_view (records ++ d ∷ [])) (spec.declare (k + 1) new items)
 unfolding spec.declare
 record_on k pool new item items records d e =
-    ap (λ (r : spec.Stood). after_declared (map declared_view records) (r >>= λ x. spec.declare (k + 1) x.1 items >>= λ ds. Ok (x.0 ∷ ds.0, ds.1))) e
+    ap (λ (r : spec.Declaration). after_declared (map declared_view records) (r >>= λ x. spec.declare (k + 1) x.1 items >>= λ ds. Ok (x.0 ∷ ds.0, ds.1))) e
     ∙ one_before (map declared_view records) (declared_view d) (spec.declare (k + 1) new items)
     ∙ ap (λ (ds : List spec.Declared). after_declared ds (spec.declare (k + 1) new items)) (sym (views_on records d))
 
 record_stops : (k : ℕ) (pool : Texts) (item : Item) (items : List Item) (ds : List spec.Declared) (why : Refusal) → spec.declared_by k pool item ≡ Err why → after_declared ds (spec.declare k pool (item ∷ items)) ≡ Err why
 unfolding spec.declare
-record_stops k pool item items ds why e = ap (λ (r : spec.Stood). after_declared ds (r >>= λ x. spec.declare (k + 1) x.1 items >>= λ more. Ok (x.0 ∷ more.0, more.1))) e
+record_stops k pool item items ds why e = ap (λ (r : spec.Declaration). after_declared ds (r >>= λ x. spec.declare (k + 1) x.1 items >>= λ more. Ok (x.0 ∷ more.0, more.1))) e
 
 -- a record that was refused
 pub record_refused : {X : Type 0} (k : ℕ) (pool now : Texts) (item : Item) (items : List Item) (ds : List spec.Declared) (stop : Stop) (all : Result (List spec.Declared × Texts) Refusal) (view : X → List spec.Declared × Texts) → all ≡ after_declared ds (spec.declare k pool (item ∷ items)) → Leaves (spec.declared_by k pool item) declared_view (Err stop) now

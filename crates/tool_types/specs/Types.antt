@@ -57,10 +57,10 @@ name_in None = None
 name_in (Some x) = name_of x
 
 -- what is declared, and the pool behind it
-abbrev pub Stood : Type 0
-Stood = Result (Declared × Texts) Refusal
+abbrev pub Declaration : Type 0
+Declaration = Result (Declared × Texts) Refusal
 
-abbrev pub object_added : ℕ → Result (HashId × Texts) pools.Refusal → Stood
+abbrev pub object_added : ℕ → Result (HashId × Texts) pools.Refusal → Declaration
 object_added k (Ok r) = Ok (object r.0 (name_in (pools.object_at r.0 r.1)), r.1)
 object_added k (Err refusal) = Err (pool_refusal k refusal)
 
@@ -73,18 +73,18 @@ unfoldable pub with_objects : ℕ → Texts → idl_types.Declared → Result Te
 with_objects k pool [] = Ok pool
 with_objects k pool (t ∷ ts) = with_all k (all_added pool (texts t.1)) >>= λ more. with_objects k more ts
 
-abbrev pub text_parsed : ℕ → Texts → Result idl_types.Declared IdlFault → Stood
+abbrev pub text_parsed : ℕ → Texts → Result idl_types.Declared IdlFault → Declaration
 text_parsed k pool (Ok ts) = with_objects k pool ts >>= λ more. Ok (types ts, more)
 text_parsed k pool (Err fault) = Err (types_refusal (idl_fault_text k fault))
 
-abbrev pub declared_as : Kind → ℕ → Texts → List ℕ → Stood
+abbrev pub declared_as : Kind → ℕ → Texts → List ℕ → Declaration
 declared_as Idl k pool payload = text_parsed k pool (idl payload)
 declared_as Object k pool payload = object_added k (added pool payload)
 declared_as Sample k pool payload = object_added k (added pool payload)
 declared_as Json k pool payload = object_added k (added pool payload)
 declared_as Note k pool payload = object_added k (added pool payload)
 
-abbrev pub declared_by : ℕ → Texts → Item → Stood
+abbrev pub declared_by : ℕ → Texts → Item → Declaration
 declared_by k pool item = declared_as item.kind k pool item.payload
 
 -- The records of a front, numbered from k, in order: what each declares, and the pool.

@@ -5,4 +5,4 @@ mod declaring;
 mod refusals;
 
 pub use declaring::{Declared, declare};
-pub use refusals::refuse_types;
+pub use refusals::{refuse_pool, refuse_types};

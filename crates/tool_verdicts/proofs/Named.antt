@@ -19,10 +19,10 @@ use Rattle.idl_parsed.specs.Laws.{ParsedIsPrintable}
 use Rattle.object_walks.specs.Resolving as walks
 use Rattle.object_walks.specs.Resolving.{resolved}
 use Rattle.tool_output.specs.Outputs.{Refusal, ◌>>=◌}
-use Rattle.tool_types.specs.Types.{Declared, types, object, Stood, text_parsed, object_added, declared_as, declared_by, declare, name_in, with_objects}
+use Rattle.tool_types.specs.Types.{Declared, types, object, Declaration, text_parsed, object_added, declared_as, declared_by, declare, name_in, with_objects}
 use Rattle.tool_words.specs.Words.{Form, plain, within, by_id, Reference}
 use Rattle.tool_names.specs.Names.{Meaning, typed, identified, typed_as, has_name, in_record, or_else, in_records, in_record_at, meant, or_refused, type_meant, type_named, both_named, both_topped, pair_named}
-use Rattle.tool_names.proofs.Meant.{resolved_valid}
+use Rattle.tool_names.proofs.Soundness.{resolved_valid}
 use Rattle.tool_verdicts.specs.Verdicts.{NamedAreValid}
 
 -- ---- what is declared
@@ -44,7 +44,7 @@ defined_valid : (known ds : idl_types.Declared) → AreDefinitions known ds → 
 defined_valid known [] p = tt
 defined_valid known (d ∷ ds) p = (p.0, defined_valid (known ++ d ∷ []) ds p.1.1.1)
 
-with_pool : (ts : idl_types.Declared) (w : Result Texts Refusal) (x : Declared × Texts) → (let r : Stood = w >>= λ more. Ok (types ts, more) in r) ≡ Ok x → types ts ≡ x.0
+with_pool : (ts : idl_types.Declared) (w : Result Texts Refusal) (x : Declared × Texts) → (let r : Declaration = w >>= λ more. Ok (types ts, more) in r) ≡ Ok x → types ts ≡ x.0
 with_pool ts (Ok more) x e = let made : Declared × Texts = (types ts, more) in let same : made ≡ x = cc in ap (λ (p : Declared × Texts). p.0) same
 with_pool ts (Err why) x e = absurd cc
 
@@ -74,7 +74,7 @@ one_more d (Ok ds) front valid more e =
     subst (λ (p : List Declared × Texts). AllValid p.0) same (valid, more ds refl)
 one_more d (Err why) front valid more e = absurd cc
 
-first_and_more : ParsedIsPrintable → (k : ℕ) (pool : Texts) (item : Item) (items : List Item) (r : Stood) (front : List Declared × Texts) → declared_by k pool item ≡ r → ((d : Declared × Texts) (ds : List Declared × Texts) → declare (k + 1) d.1 items ≡ Ok ds → AllValid ds.0)
+first_and_more : ParsedIsPrintable → (k : ℕ) (pool : Texts) (item : Item) (items : List Item) (r : Declaration) (front : List Declared × Texts) → declared_by k pool item ≡ r → ((d : Declared × Texts) (ds : List Declared × Texts) → declare (k + 1) d.1 items ≡ Ok ds → AllValid ds.0)
     → (let all : Result (List Declared × Texts) Refusal = r >>= λ d. declare (k + 1) d.1 items >>= λ ds. Ok (d.0 ∷ ds.0, ds.1) in all) ≡ Ok front → AllValid front.0
 first_and_more law k pool item items (Ok d) front is more e = one_more d.0 (declare (k + 1) d.1 items) front (record_valid law k pool item.kind item.payload d is) (λ ds. more d ds) e
 first_and_more law k pool item items (Err why) front is more e = absurd cc
@@ -130,7 +130,7 @@ meant_valid (by_id id) front all = id_valid id (found id front.1)
 
 -- ---- types
 
-resolves : (r : Result Tree walks.Refusal) (t : Tree) → or_refused r ≡ Ok t → r ≡ Ok t
+pub resolves : (r : Result Tree walks.Refusal) (t : Tree) → or_refused r ≡ Ok t → r ≡ Ok t
 resolves (Ok u) t e = cc
 resolves (Err why) t e = absurd cc
 
@@ -155,7 +155,7 @@ one_topped : (u : Result (Unit {0}) Refusal) (p ts : Tree × Tree) → (let r : 
 one_topped (Ok u) p ts e = cc
 one_topped (Err why) p ts e = absurd cc
 
-topped_valid : (both : Result (Tree × Tree) Refusal) (top : Tree × Tree → Result (Unit {0}) Refusal) (ts : Tree × Tree) → (let r : Result (Tree × Tree) Refusal = both >>= λ p. top p >>= λ _. Ok p in r) ≡ Ok ts → both ≡ Ok ts
+pub topped_valid : (both : Result (Tree × Tree) Refusal) (top : Tree × Tree → Result (Unit {0}) Refusal) (ts : Tree × Tree) → (let r : Result (Tree × Tree) Refusal = both >>= λ p. top p >>= λ _. Ok p in r) ≡ Ok ts → both ≡ Ok ts
 topped_valid (Ok p) top ts e = ap (λ (x : Tree × Tree). let made : Result (Tree × Tree) Refusal = Ok x in made) (one_topped (top p) p ts e)
 topped_valid (Err why) top ts e = absurd cc
 

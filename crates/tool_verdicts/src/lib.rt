@@ -1,8 +1,9 @@
 //! The types that commands run on: named among what a front declares, and assignable where two are.
 #![tactic(auto)]
 
+mod judging;
 mod laws;
 mod verdicts;
 
 pub use laws::named_are_valid;
-pub use verdicts::{reader_type, top_type};
+pub use verdicts::{id_and_pool, reader_type, top_and_pool, top_type};

@@ -1,23 +1,27 @@
-ghost use Rattle.std.specs.Prelude.{◌≡◌, ◌≤◌, IfOk, length, map};
+ghost use Rattle.std.specs.Prelude.{◌≡◌, ◌≤◌, Ok, IfOk, length, map, true};
 ghost use Rattle.type_trees.specs.View.{tree};
+ghost use Rattle.type_trees.specs.Bridge.{type_shape};
 ghost use Rattle.projection_laws.specs.Premises.{IsValid};
 ghost use Rattle.tool_output.specs.Runs.{Comes, Refuses};
 ghost use Rattle.tool_front.specs.Reading.{AreWithin};
 ghost use Rattle.tool_lines.specs.Lines as lines;
 ghost use Rattle.tool_words.specs.View.{pair_view, reference_view};
+ghost use Rattle.tool_names.specs.Identified.{Resolves};
+ghost use Rattle.tool_names.specs.Names.{is_top};
 ghost use Rattle.tool_types.specs.Declaring.{AllGood, declared_view};
+ghost use Rattle.tool_names.specs.Names as names;
 ghost use Rattle.tool_verdicts.specs.Verdicts as spec;
 
-use assignability::{Verdict, judge_under};
+use crate::judging::verdict_on;
+use assignability::Verdict;
 use std::alloc::Global;
 use tool_lines::no_text;
-use tool_names::{pair_named, top_named};
+use tool_names::{id_named, pair_named, top_named};
 use tool_output::{Cause, Halt, Refused, Stop};
 use tool_types::{Declared, declare};
 use tool_words::{Pair, Reference};
 use type_object::Pool;
-use type_rules::is_within_limits;
-use type_trees::{Path, XType};
+use type_trees::{HashId, Path, XType};
 use xcdr_model::Rule;
 use xt_io::Item;
 
@@ -33,14 +37,22 @@ fn refuse_rule(alloc: Global, rule: Rule, path: &Path) -> Stop
     }
 }
 
-fn judged(alloc: Global, pair: &Pair<'_>, types: &(XType, XType)) -> Result<(), Stop>
-    requires { IsValid types.now.0 }
+fn judged(
+    alloc: Global,
+    pair: &Pair<'_>,
+    records: &[Declared],
+    pool: &Pool,
+    types: &(XType, XType),
+) -> Result<(), Stop>
+    requires good { AllGood records.now }
+    requires valid { IsValid types.now.0 }
+    requires named { names.pair_named (reference_view pair.now.reader) (reference_view pair.now.writer) (map declared_view records.now, pool.now) ≡ Ok (tree types.now.0, tree types.now.1) }
     ensures { Comes (lines.judged pair.now.policy pair.now.rep (tree types.now.0) (tree types.now.1)) (λ u. u) result }
 {
-    is_within_limits();
-    match judge_under(&pair.policy, pair.rep, &types.0, &types.1) {
-        Verdict::Yes => Ok(()),
-        Verdict::No { rule, path } => Err(refuse_rule(alloc, rule, &path)),
+    match verdict_on(alloc, pair, records, pool, types) {
+        Ok(Verdict::Yes) => Ok(()),
+        Ok(Verdict::No { rule, path }) => Err(refuse_rule(alloc, rule, &path)),
+        Err(_) => Err(Stop::Halted(Halt::OutOfMemory)),
     }
 }
 
@@ -56,7 +68,7 @@ fn assignable(
 {
     match pair_named(alloc, &pair.reader, &pair.writer, records, pool) {
         Err(stop) => Err(stop),
-        Ok(types) => match judged(alloc, pair, &types) {
+        Ok(types) => match judged(alloc, pair, records, pool, &types) {
             Err(stop) => Err(stop),
             Ok(()) => Ok(types.0),
         },
@@ -87,5 +99,48 @@ pub fn top_type(alloc: Global, reference: &Reference<'_>, records: &[Item]) -> R
     match declare(alloc, records) {
         Err(stop) => Err(stop),
         Ok((declared, pool)) => top_named(alloc, reference, declared.as_slice(), &pool),
+    }
+}
+
+/// The structure or union that a word names among what the records of a front declare, with the pool of their objects. It reads and writes
+/// nothing.
+pub fn top_and_pool(
+    alloc: Global,
+    reference: &Reference<'_>,
+    records: &[Item],
+) -> Result<(XType, Pool), Stop>
+    requires few { length records.now ≤ 1048576 }
+    requires within { AreWithin records.now }
+    ensures comes { Comes (spec.top_and_pool (reference_view reference.now) records.now) (λ found. (tree found.0, found.1)) result }
+    ensures valid { IfOk result (λ found. IsValid found.0) }
+    ensures top { IfOk result (λ found. is_top (type_shape found.0) ≡ true) }
+{
+    match declare(alloc, records) {
+        Err(stop) => Err(stop),
+        Ok((declared, pool)) => match top_named(alloc, reference, declared.as_slice(), &pool) {
+            Err(stop) => Err(stop),
+            Ok(ty) => Ok((ty, pool)),
+        },
+    }
+}
+
+/// The identifier of the structure or union that a word names among what the records of a front declare, with the pool of their objects, in
+/// which it has a type. It reads and writes nothing.
+pub fn id_and_pool(
+    alloc: Global,
+    reference: &Reference<'_>,
+    records: &[Item],
+) -> Result<(HashId, Pool), Stop>
+    requires few { length records.now ≤ 1048576 }
+    requires within { AreWithin records.now }
+    ensures comes { Comes (spec.id_and_pool (reference_view reference.now) records.now) (λ found. (found.0, found.1)) result }
+    ensures resolves { IfOk result (λ found. Resolves found.1 found.0) }
+{
+    match declare(alloc, records) {
+        Err(stop) => Err(stop),
+        Ok((declared, pool)) => match id_named(alloc, reference, declared.as_slice(), &pool) {
+            Err(stop) => Err(stop),
+            Ok(id) => Ok((id, pool)),
+        },
     }
 }

@@ -27,3 +27,7 @@ command_view (command.Write ty rep) = spec.write (reference_view ty) rep
 command_view (command.Convert pair to) = spec.convert (pair_view pair) to
 command_view command.Show = spec.show
 command_view (command.Wrap kind) = spec.wrap kind
+command_view (command.Instances pair depth) = spec.instances (pair_view pair) depth.count
+command_view (command.Record ty rep) = spec.keep (reference_view ty) rep
+command_view (command.Replay ty) = spec.replay (reference_view ty)
+command_view (command.Make seed count) = spec.make seed count

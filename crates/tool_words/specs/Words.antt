@@ -35,6 +35,10 @@ leads (o ∷ p ∷ os) = not (o == 48)
 abbrev pub number_below : ℕ → List ℕ → Option ℕ
 number_below most octets = if leads octets then valued most 0 octets else None
 
+-- a number of 64 bits
+abbrev pub long_number : List ℕ → Option ℕ
+long_number octets = number_below 18446744073709551616 octets
+
 -- ---- references to types
 
 -- How a word names a type: a name anywhere, a name in one record, or an identifier.
@@ -125,6 +129,10 @@ pub data Command : Type 0 where
   convert : Pair → Rep → Command
   show : Command
   wrap : Kind → Command
+  instances : Pair → ℕ → Command
+  keep : Reference → Rep → Command
+  replay : Reference → Command
+  make : ℕ → ℕ → Command
 
 -- a part of a command's words, and what it makes of the rest
 abbrev pub with : {A B : Type 0} → Option A → (A → Option B) → Option B
@@ -149,6 +157,28 @@ unfoldable pub wrap_words : List (List ℕ) → Option Command
 wrap_words (kind ∷ []) = option_map wrap (kind_word kind)
 wrap_words words = None
 
+-- how many values are kept of each key: 1 to 1,024
+abbrev pub depth_of : List ℕ → Option ℕ
+depth_of word = with (number_below 1025 word) (λ n. if n == 0 then None else Some n)
+
+-- the standard's own policy
+unfoldable pub instances_words : List (List ℕ) → Option Command
+instances_words (r ∷ w ∷ rep ∷ depth ∷ []) = with (pair_of r w rep []) (λ pair. option_map (instances pair) (depth_of depth))
+instances_words words = None
+
+unfoldable pub record_words : List (List ℕ) → Option Command
+record_words (w ∷ rep ∷ []) = with (reference w) (λ r. option_map (keep r) (rep_of rep))
+record_words words = None
+
+unfoldable pub replay_words : List (List ℕ) → Option Command
+replay_words (r ∷ []) = option_map replay (reference r)
+replay_words words = None
+
+-- a seed of 64 bits, and at most 100,000 pairs
+unfoldable pub make_words : List (List ℕ) → Option Command
+make_words (seed ∷ count ∷ []) = with (long_number seed) (λ s. option_map (make s) (number_below 100001 count))
+make_words words = None
+
 abbrev pub alone : Command → List (List ℕ) → Option Command
 alone command words = if length words == 0 then Some command else None
 
@@ -161,6 +191,10 @@ command_by name words =
     else if bytes_eq name (codes "convert") then convert_words words
     else if bytes_eq name (codes "show") then alone show words
     else if bytes_eq name (codes "wrap") then wrap_words words
+    else if bytes_eq name (codes "instances") then instances_words words
+    else if bytes_eq name (codes "record") then record_words words
+    else if bytes_eq name (codes "replay") then replay_words words
+    else if bytes_eq name (codes "make") then make_words words
     else None
 
 -- what the words ask

@@ -3,11 +3,11 @@ use Rattle.std.specs.Prelude.{◌≡◌, ℕ, true, false, [], ◌∷◌, Some, 
 use Rattle.xt_shapes.specs.declared.leaves.Rep.TheVariants.{Xcdr1, Xcdr2}
 use Rattle.xt_io.specs.declared.Kind.TheVariants.{Json}
 use Rattle.xcdr_model.specs.Policies.{standard}
-use Rattle.tool_words.specs.Words.{Form, plain, within, Reference, Command, judge, read, convert, show, wrap, form_of, in_record_form, told, settings, policy_behind, policy_word, policy_of, pair_words, convert_words, write_words, wrap_words, command_by, command_of}
+use Rattle.tool_words.specs.Words.{Form, plain, within, Reference, Command, judge, read, convert, show, wrap, form_of, in_record_form, told, settings, policy_behind, policy_word, policy_of, pair_words, convert_words, write_words, wrap_words, instances, instances_words, record_words, replay_words, make, make_words, command_by, command_of}
 
 -- all that words unfold
 unfoldable words_read : ℕ
-unfolding in_record_form form_of told settings policy_behind policy_word policy_of pair_words convert_words write_words wrap_words command_by command_of
+unfolding in_record_form form_of told settings policy_behind policy_word policy_of pair_words convert_words write_words wrap_words instances_words record_words replay_words make_words command_by command_of
 words_read = 0
 
 -- ---- types
@@ -62,3 +62,19 @@ wraps_json = refl
 pub shows_nothing_more : command_of (codes "show" ∷ codes "A" ∷ []) ≡ None
 unfolding words_read
 shows_nothing_more = refl
+
+pub keeps_the_last : command_of (codes "instances" ∷ codes "A" ∷ codes "A" ∷ codes "xcdr2" ∷ codes "1024" ∷ []) ≡ Some (instances (record { reader = a_type; writer = a_type; rep = Xcdr2; policy = standard }) 1024)
+unfolding words_read
+keeps_the_last = refl
+
+pub keeps_none : command_of (codes "instances" ∷ codes "A" ∷ codes "A" ∷ codes "xcdr2" ∷ codes "0" ∷ []) ≡ None
+unfolding words_read
+keeps_none = refl
+
+pub greatest_seed : command_of (codes "make" ∷ codes "18446744073709551615" ∷ codes "100000" ∷ []) ≡ Some (make 18446744073709551615 100000)
+unfolding words_read
+greatest_seed = refl
+
+pub seed_too_large : command_of (codes "make" ∷ codes "18446744073709551616" ∷ codes "0" ∷ []) ≡ None
+unfolding words_read
+seed_too_large = refl

@@ -3,6 +3,8 @@ ghost use Rattle.std.specs.Option.{option_map};
 ghost use Rattle.tool_words.specs.Words as spec;
 ghost use Rattle.tool_words.specs.View.{pair_view, command_view};
 
+use crate::depths::Depth;
+use crate::numbers::{long_number, number_below};
 use crate::policies::policy_of;
 use crate::references::{Reference, named_by};
 use xcdr_model::Policy;
@@ -36,6 +38,14 @@ pub enum Command<'a> {
     Show,
     /// The input as one record.
     Wrap(Kind),
+    /// The last values of each key, as the reader's type sees them.
+    Instances(Pair<'a>, Depth),
+    /// The writer's samples behind the objects of their type.
+    Record(Reference<'a>, Rep),
+    /// Recordings, as the reader's type sees them.
+    Replay(Reference<'a>),
+    /// So many pairs of types from a seed.
+    Make(u64, u32),
 }
 
 fn rep_of(word: &[u8]) -> Option<Rep>
@@ -134,6 +144,72 @@ fn wrap_words(words: &[Word]) -> Option<Command<'_>>
     }
 }
 
+fn depth_of(word: &[u8]) -> Option<Depth>
+    ensures { option_map (λ depth. depth.count) result ≡ spec.depth_of word.now }
+{
+    let count = number_below(1025, word)?;
+    if count == 0 {
+        None
+    } else {
+        Some(Depth { count })
+    }
+}
+
+#[tactic(auto, unfolding(crate::specs::Words::instances_words))]
+fn instances_words(words: &[Word]) -> Option<Command<'_>>
+    ensures { option_map command_view result ≡ spec.instances_words words.now }
+{
+    match words {
+        [reader, writer, rep, depth] => {
+            let pair = pair_of(reader.octets(), writer.octets(), rep.octets(), &[])?;
+            let depth = depth_of(depth.octets())?;
+            Some(Command::Instances(pair, depth))
+        }
+        _ => None,
+    }
+}
+
+#[tactic(auto, unfolding(crate::specs::Words::record_words))]
+fn record_words(words: &[Word]) -> Option<Command<'_>>
+    ensures { option_map command_view result ≡ spec.record_words words.now }
+{
+    match words {
+        [ty, rep] => {
+            let ty = named_by(ty.octets())?;
+            let rep = rep_of(rep.octets())?;
+            Some(Command::Record(ty, rep))
+        }
+        _ => None,
+    }
+}
+
+#[tactic(auto, unfolding(crate::specs::Words::replay_words))]
+fn replay_words(words: &[Word]) -> Option<Command<'_>>
+    ensures { option_map command_view result ≡ spec.replay_words words.now }
+{
+    match words {
+        [ty] => {
+            let ty = named_by(ty.octets())?;
+            Some(Command::Replay(ty))
+        }
+        _ => None,
+    }
+}
+
+#[tactic(auto, unfolding(crate::specs::Words::make_words))]
+fn make_words(words: &[Word]) -> Option<Command<'_>>
+    ensures { option_map command_view result ≡ spec.make_words words.now }
+{
+    match words {
+        [seed, count] => {
+            let seed = long_number(seed.octets())?;
+            let count = number_below(100_001, count.octets())?;
+            Some(Command::Make(seed, count))
+        }
+        _ => None,
+    }
+}
+
 fn alone<'a>(command: Command<'a>, words: &[Word]) -> Option<Command<'a>>
     ensures { option_map command_view result ≡ spec.alone (command_view command.entry) words.now }
 {
@@ -176,6 +252,14 @@ fn command_by<'a>(name: &[u8], words: &'a [Word]) -> Option<Command<'a>>
         alone(Command::Show, words)
     } else if name == b"wrap".as_slice() {
         wrap_words(words)
+    } else if name == b"instances".as_slice() {
+        instances_words(words)
+    } else if name == b"record".as_slice() {
+        record_words(words)
+    } else if name == b"replay".as_slice() {
+        replay_words(words)
+    } else if name == b"make".as_slice() {
+        make_words(words)
     } else {
         None
     }

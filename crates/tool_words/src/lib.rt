@@ -2,6 +2,7 @@
 #![tactic(auto)]
 
 mod commands;
+mod depths;
 mod numbers;
 mod policies;
 mod references;
@@ -9,4 +10,5 @@ mod references;
 mod tests;
 
 pub use commands::{Command, Pair, command_of};
+pub use depths::Depth;
 pub use references::{Form, Reference, named_by};

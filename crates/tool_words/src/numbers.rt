@@ -1,4 +1,4 @@
-ghost use Rattle.std.specs.Prelude.{◌≡◌};
+ghost use Rattle.std.specs.Prelude.{◌≡◌, ◌≤◌, ◌<◌, ◌^◌, IfSome};
 ghost use Rattle.tool_words.specs.Words as spec;
 
 fn is_digit(octet: u8) -> bool
@@ -9,24 +9,22 @@ fn is_digit(octet: u8) -> bool
 
 // The number that the digits spell, where it is below the most.
 #[tactic(auto, using(crate::proofs::Valued::valued_past))]
-fn valued(most: u32, digits: &[u8]) -> Option<u32>
-    ensures { result ≡ spec.valued most 0 digits.now }
+fn valued(most: u128, digits: &[u8]) -> Option<u128>
+    requires { most ≤ 2 ^ 64 }
+    ensures value { result ≡ spec.valued most 0 digits.now }
+    ensures below { IfSome result (λ number. number < most) }
 {
-    let mut number: u64 = 0;
+    let mut number: u128 = 0;
     for digit in digits {
-        if u64::from(most) <= number {
+        if most <= number {
             return None;
         }
         if !is_digit(*digit) {
             return None;
         }
-        number = 10 * number + u64::from(*digit - b'0');
+        number = 10 * number + u128::from(*digit - b'0');
     }
-    if number < u64::from(most) {
-        Some(number as u32)
-    } else {
-        None
-    }
+    if number < most { Some(number) } else { None }
 }
 
 fn leads(text: &[u8]) -> bool
@@ -39,13 +37,31 @@ fn leads(text: &[u8]) -> bool
     }
 }
 
-/// The number below `most` that decimal digits without a leading zero spell.
-pub fn number_below(most: u32, text: &[u8]) -> Option<u32>
-    ensures { result ≡ spec.number_below most text.now }
+fn number_of(most: u128, text: &[u8]) -> Option<u128>
+    requires { most ≤ 2 ^ 64 }
+    ensures value { result ≡ spec.number_below most text.now }
+    ensures below { IfSome result (λ number. number < most) }
 {
     if leads(text) {
         valued(most, text)
     } else {
         None
     }
+}
+
+/// The number below `most` that decimal digits without a leading zero spell.
+pub fn number_below(most: u32, text: &[u8]) -> Option<u32>
+    ensures value { result ≡ spec.number_below most text.now }
+    ensures below { IfSome result (λ number. number < most) }
+{
+    let number = number_of(u128::from(most), text)?;
+    Some(number as u32)
+}
+
+/// The number of 64 bits that decimal digits without a leading zero spell.
+pub fn long_number(text: &[u8]) -> Option<u64>
+    ensures { result ≡ spec.long_number text.now }
+{
+    let number = number_of(1 << 64, text)?;
+    Some(number as u64)
 }

@@ -159,6 +159,9 @@ fn append(alloc: Global, into: &mut Text, word: &str, text: &str) -> Result<bool
     if let Some(kind) = kind_of_text(word) {
         return append_record(into, kind, text.as_bytes());
     }
+    if word == "samples" {
+        return append_samples(alloc, into, text);
+    }
     let Ok(octets) = hex::decode(alloc, text) else {
         return Ok(false);
     };
@@ -170,6 +173,26 @@ fn append(alloc: Global, into: &mut Text, word: &str, text: &str) -> Result<bool
         }
         None => Ok(false),
     }
+}
+
+/// Appends so many samples, each with these octets and its number behind them, as four octets in little-endian order. False where the text
+/// is no number and octets in hexadecimal.
+fn append_samples(alloc: Global, into: &mut Text, text: &str) -> Result<bool, Trouble> {
+    let (count, octets) = text.split_once(' ').unwrap_or((text, ""));
+    let Ok(count) = count.parse::<u32>() else {
+        return Ok(false);
+    };
+    let Ok(octets) = hex::decode(alloc, octets) else {
+        return Ok(false);
+    };
+    for number in 0..count {
+        let mut payload = Text::from_octets(alloc, octets.as_slice())?;
+        payload.append(&number.to_le_bytes())?;
+        if !append_record(into, Kind::Sample, payload.octets())? {
+            return Ok(false);
+        }
+    }
+    Ok(true)
 }
 
 /// Appends a record: its kind, its length and its payload. False where its length has no 32 bits.

@@ -14,4 +14,5 @@ mod writing;
 pub use closing::closed;
 pub use replayed::{ReplayFault, Replayed};
 pub use replayer::Replayer;
+pub use streams::stream_text;
 pub use writing::{StreamFault, write_stream};

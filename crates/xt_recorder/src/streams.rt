@@ -24,7 +24,7 @@ pub(crate) fn has_hash(id: &HashId)
 }
 
 /// The payload of the Note that says the type and the representation of the samples after it: 43 octets.
-pub(crate) fn stream_text(alloc: Global, id: &HashId, rep: Rep) -> Result<Text, OutOfMemory>
+pub fn stream_text(alloc: Global, id: &HashId, rep: Rep) -> Result<Text, OutOfMemory>
     ensures { IfOk result (λ text. text ≡ spec.stream_text id.now rep) }
 {
     let rep = rep_text(rep);

@@ -57,6 +57,14 @@ impl Replayer {
         }
     }
 
+    /// The reader's type.
+    pub fn reader(&self) -> &XType
+        ensures reader { tree result.now ≡ reader_of self.now }
+        ensures valid { IsValid result.now }
+    {
+        &self.reader
+    }
+
     fn object(&mut self, payload: &[u8]) -> Result<Replayed, ReplayFault>
         ensures ok { IfOk result (λ replayed. spec.object_taken (state_of self.old) (added self.old.pool payload.now) ≡ Ok (answer replayed, state_of self.new)) }
         ensures err { IfErr result (λ fault. Refuses fault (spec.object_taken (state_of self.old) (added self.old.pool payload.now))) }

@@ -6,8 +6,9 @@ use Rattle.tool_output.specs.declared.ending.Style.{Style}
 use Rattle.tool_output.specs.declared.ending.Style.TheVariants.{Lines, Records}
 use Rattle.tool_output.specs.Outputs.{Output, refused}
 use Rattle.tool_runs.specs.Commands.{command_output, body_behind, ends_behind}
-use Rattle.tool_words.specs.Words.{Command, compile, judge, read, write, convert, show, wrap, command_of}
-use Rattle.tool_commands.specs.Commands.{judge_lines, read_lines, convert_records, write_records}
+use Rattle.tool_words.specs.Words.{Command, compile, judge, read, write, convert, show, wrap, instances, keep, replay, make, command_of}
+use Rattle.tool_commands.specs.Commands.{judge_lines, read_lines, convert_records, write_records, instances_lines, record_records, replay_lines}
+use Rattle.tool_commands.specs.Making.{made}
 use Rattle.tool_commands.specs.Wrapping.{wrapped}
 use Rattle.tool_listing.specs.Listing.{compile_records, show_lines}
 
@@ -26,6 +27,10 @@ of_command (write r rep) octets = command_output Records (body_behind (write_rec
 of_command (convert pair to) octets = command_output Records (body_behind (convert_records pair to)) (bundle octets)
 of_command show octets = command_output Lines (ends_behind show_lines) (bundle octets)
 of_command (wrap kind) octets = wrapped kind octets
+of_command (instances pair depth) octets = command_output Lines (body_behind (instances_lines pair depth)) (bundle octets)
+of_command (keep r rep) octets = command_output Records (body_behind (record_records r rep)) (bundle octets)
+of_command (replay r) octets = command_output Lines (body_behind (replay_lines r)) (bundle octets)
+of_command (make seed count) octets = made seed count
 
 abbrev pub asked : Option Command → List ℕ → Output
 asked None octets = bad_words
@@ -33,6 +38,22 @@ asked (Some command) octets = of_command command octets
 
 abbrev pub output_of : List (List ℕ) → List ℕ → Output
 output_of words octets = asked (command_of words) octets
+
+-- ---- whether the input is read
+
+-- `make` alone reads none.
+abbrev pub TakesInput : Command → Type 0
+TakesInput (make seed count) = ⊥
+TakesInput compile = Unit {0}
+TakesInput (judge pair) = Unit {0}
+TakesInput (read pair) = Unit {0}
+TakesInput (write r rep) = Unit {0}
+TakesInput (convert pair to) = Unit {0}
+TakesInput show = Unit {0}
+TakesInput (wrap kind) = Unit {0}
+TakesInput (instances pair depth) = Unit {0}
+TakesInput (keep r rep) = Unit {0}
+TakesInput (replay r) = Unit {0}
 
 -- ---- the last line where the source fails: a line, or a Note where records are written
 
@@ -44,6 +65,10 @@ style_of_command (write r rep) = Records
 style_of_command (convert pair to) = Records
 style_of_command show = Lines
 style_of_command (wrap kind) = Lines
+style_of_command (instances pair depth) = Lines
+style_of_command (keep r rep) = Records
+style_of_command (replay r) = Lines
+style_of_command (make seed count) = Lines
 
 abbrev pub style_asked : Option Command → Style
 style_asked None = Lines

@@ -1,12 +1,14 @@
-ghost use Rattle.std.specs.Prelude.{◌≡◌, Ok};
+ghost use Rattle.std.specs.Prelude.{◌≡◌, IfSome, Ok};
 ghost use Rattle.std.specs.Option.{option_map};
 ghost use Rattle.std.specs.Io.KnownBytes.{IsAtEnd};
 ghost use Rattle.tool_output.specs.Runs.{Ends, Halts, HaltsWriting, Writes};
 ghost use Rattle.tool_words.specs.View.{command_view};
-ghost use Rattle.xt_tool.specs.Output.{asked, bad_words, of_command};
+ghost use Rattle.xt_tool.specs.Output.{asked, bad_words, of_command, TakesInput};
 
 use std::alloc::Global;
-use tool_commands::{Converting, Judging, Reading, Writing, wrap};
+use tool_commands::{
+    Converting, Judging, Keeping, Reading, Recording, Replaying, Writing, make, wrap,
+};
 use tool_listing::{Compiling, Showing};
 use tool_output::{Cause, Ending, Halt, Refused, Style, last};
 use tool_runs::{answer_command, body_command};
@@ -36,7 +38,7 @@ fn run_command<S: Source, K: Sink>(
     output: &mut K,
 ) -> Result<Ending, Halt>
     ensures output { Writes (option_map (of_command (command_view command.entry)) (S.left input.old)) result (K.taken output.old) (K.taken output.new) }
-    ensures ended { result ≡ Ok Ending.Done → IsAtEnd (S.left input.new) }
+    ensures ended { result ≡ Ok Ending.Done → TakesInput (command_view command.entry) → IsAtEnd (S.left input.new) }
     ensures halts { Halts (S.faults input.old) (S.faults input.new) (K.faults output.old) (K.faults output.new) result }
     ensures same { K.name output.new ≡ K.name output.old }
 {
@@ -50,6 +52,16 @@ fn run_command<S: Source, K: Sink>(
         Command::Compile => answer_command(alloc, &Compiling, input, output),
         Command::Show => answer_command(alloc, &Showing, input, output),
         Command::Wrap(kind) => wrap(alloc, kind, input, output),
+        Command::Instances(pair, depth) => {
+            body_command(alloc, &Keeping { pair, depth }, input, output)
+        }
+        Command::Record(reference, rep) => {
+            body_command(alloc, &Recording { reference, rep }, input, output)
+        }
+        Command::Replay(reference) => {
+            body_command(alloc, &Replaying { reference }, input, output)
+        }
+        Command::Make(seed, count) => make(alloc, seed, count, output),
     }
 }
 
@@ -61,7 +73,7 @@ pub fn run<S: Source, K: Sink>(
     output: &mut K,
 ) -> Result<Ending, Halt>
     ensures output { Writes (option_map (asked (option_map command_view command.entry)) (S.left input.old)) result (K.taken output.old) (K.taken output.new) }
-    ensures ended { result ≡ Ok Ending.Done → IsAtEnd (S.left input.new) }
+    ensures ended { result ≡ Ok Ending.Done → IfSome (option_map command_view command.entry) TakesInput → IsAtEnd (S.left input.new) }
     ensures halts { Halts (S.faults input.old) (S.faults input.new) (K.faults output.old) (K.faults output.new) result }
     ensures same { K.name output.new ≡ K.name output.old }
 {

@@ -5,7 +5,8 @@ ghost use Rattle.xt_io.specs.Outside.{Rose};
 ghost use Rattle.tool_output.specs.Outputs.{last_piece};
 ghost use Rattle.tool_words.specs.View.{command_view};
 ghost use Rattle.xt_tool.specs.Headline.{Headline, Refused};
-ghost use Rattle.xt_tool.specs.Output.{output_of, style_asked, style_of};
+ghost use Rattle.tool_words.specs.Words as spec;
+ghost use Rattle.xt_tool.specs.Output.{TakesInput, output_of, style_asked, style_of};
 ghost use Rattle.xt_tool.specs.Statuses.{Writes};
 
 use crate::laws::{headline, refused};
@@ -22,10 +23,18 @@ fn style_asked(command: &Option<Command<'_>>) -> Style
     ensures { result ≡ style_asked (option_map command_view command.now) }
 {
     match command {
-        Some(Command::Compile | Command::Write(..) | Command::Convert(..)) => Style::Records,
-        Some(Command::Judge(_) | Command::Read(_) | Command::Show | Command::Wrap(_)) | None => {
-            Style::Lines
-        }
+        Some(Command::Compile | Command::Write(..) | Command::Convert(..) | Command::Record(..)) =>
+            Style::Records,
+        Some(
+            Command::Judge(_)
+            | Command::Read(_)
+            | Command::Show
+            | Command::Wrap(_)
+            | Command::Instances(..)
+            | Command::Replay(_)
+            | Command::Make(..),
+        )
+        | None => Style::Lines,
     }
 }
 
@@ -55,8 +64,8 @@ pub fn xt<R: Threads + Sync, S: Source, K: Sink, N: Net>(
     ensures refused { Refused }
     // Where the source tells its octets, the text is the output of the words on them, whole; or a beginning of it, by the status.
     ensures output { IfSome (S.left input.old) (λ octets. Writes (output_of words.now octets) (last_piece (style_of words.now) (codes "read-fault")) result (Rose (S.faults input.old) (S.faults input.new)) (K.taken output.old) (K.taken output.new)) }
-    // A run that is done read its input to the end.
-    ensures ended { result ≡ Status.Done → IsAtEnd (S.left input.new) }
+    // A run that is done and takes input read it to the end.
+    ensures ended { result ≡ Status.Done → IfSome (spec.command_of words.now) TakesInput → IsAtEnd (S.left input.new) }
     // A fault is answered only where the count rose.
     ensures read { result ≡ Status.ReadFault → Rose (S.faults input.old) (S.faults input.new) }
     ensures write { result ≡ Status.WriteFault → Rose (K.faults output.old) (K.faults output.new) }

@@ -2,7 +2,7 @@ use Rattle.std.proofs.Common.{◌≡◌, sym, ap, ◌∙◌}
 use Rattle.std.specs.Option.{option_map, option_and_then}
 use Rattle.tool_types.specs.Declaring.{declared_view}
 use Rattle.tool_names.specs.Names as spec
-use Rattle.tool_names.proofs.Meant.{good_at, record_at}
+use Rattle.tool_names.proofs.Soundness.{good_at, record_at}
 use Rattle.tool_names.proofs.meanings.in_record_at.Goals as goal
 
 pub in_record-requires : goal.in_record-requires

@@ -1,5 +1,5 @@
 use Rattle.type_trees.specs.View.{tree}
-use Rattle.tool_names.proofs.Meant.{resolved_valid}
+use Rattle.tool_names.proofs.Soundness.{resolved_valid}
 use Rattle.tool_names.proofs.named.type_resolved.Goals as goal
 
 pub returns-in-Ok-clause-valid : goal.returns-in-Ok-clause-valid

@@ -1,0 +1,3 @@
+pub mod Instancing
+pub mod Keeping
+pub mod Laws

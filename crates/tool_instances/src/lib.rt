@@ -1,0 +1,12 @@
+//! The last values of each key, from the samples of a body, and the lines of them at its end.
+#![tactic(auto)]
+
+mod keeping;
+mod laws;
+mod lines;
+mod putting;
+#[cfg(test)]
+mod tests;
+
+pub use keeping::LastSamples;
+pub use laws::keeps_last;

@@ -1,0 +1,22 @@
+-- What the faults of a replay say.
+use Rattle.std.specs.Prelude.{◌≡◌, ℕ}
+use Rattle.xt_io.specs.declared.Item.{Item}
+use Rattle.xt_recorder.specs.declared.replayed.ReplayFault.{ReplayFault}
+use Rattle.xt_recorder.specs.declared.replayed.ReplayFault.TheVariants as faults
+use Rattle.tool_output.specs.declared.halt.Halt.TheVariants as halts
+use Rattle.tool_output.specs.declared.stop.Stop.{Stop}
+use Rattle.tool_output.specs.declared.stop.Stop.TheVariants as stops
+use Rattle.tool_output.specs.Outputs.{misplaced}
+use Rattle.tool_output.specs.Runs.{Refuses}
+use Rattle.tool_types.specs.Types.{types_refusal}
+use Rattle.tool_types.specs.Declaring.{IsRefusal}
+use Rattle.tool_names.specs.Meanings.{WalkStops}
+use Rattle.tool_recordings.specs.Replaying.{top_text}
+
+-- what the fault of record k says
+abbrev pub ReplayStops : ℕ → Item → ReplayFault → Stop → Type 0
+ReplayStops k item faults.Misplaced stop = Refuses (misplaced item) stop
+ReplayStops k item (faults.Pool fault) stop = IsRefusal k fault stop
+ReplayStops k item (faults.Resolve fault) stop = WalkStops fault stop
+ReplayStops k item (faults.Top id) stop = Refuses (types_refusal (top_text id)) stop
+ReplayStops k item faults.OutOfMemory stop = stop ≡ stops.Halted halts.OutOfMemory
