@@ -4,7 +4,7 @@
 
 use std::alloc::Global;
 use std::env;
-use std::io::BufReader;
+use std::io::{BufReader, ErrorKind};
 use std::process::ExitCode;
 use std::rt::Env;
 use xt_io::{ReadSource, TcpNet, WriteSink};
@@ -18,10 +18,14 @@ const BLOCK: usize = 65_536;
 fn words_of(rt: &(impl Env + AllocGlobal)) -> Result<Row<Word>, OutOfMemory> {
     let alloc = rt.alloc();
     let mut words = Row::new(alloc);
-    if let Ok(given) = env::args(rt) {
-        for word in given.skip(1) {
-            words.push(Word::from_octets(alloc, word.as_bytes())?)?;
+    match env::args(rt) {
+        Ok(given) => {
+            for word in given.skip(1) {
+                words.push(Word::from_octets(alloc, word.as_bytes())?)?;
+            }
         }
+        Err(error) if error.kind() == ErrorKind::OutOfMemory => return Err(OutOfMemory),
+        Err(_) => {}
     }
     Ok(words)
 }
