@@ -3,3 +3,4 @@ pub mod Written
 pub mod Listing
 pub mod StreamTexts
 pub mod Telling
+pub mod Kept

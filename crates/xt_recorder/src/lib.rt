@@ -2,6 +2,7 @@
 #![tactic(auto)]
 
 mod closing;
+mod found;
 pub mod laws;
 mod replayed;
 mod replayer;

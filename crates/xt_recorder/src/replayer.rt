@@ -1,6 +1,10 @@
 // A reader of recordings.
+ghost use Rattle.type_trees.specs.View.{tree};
 ghost use Rattle.projection_laws.specs.Premises.{IsValid};
+ghost use Rattle.std.specs.Option.{ForSome};
+ghost use Rattle.xt_recorder.specs.Judged.{IsSo};
 
+use crate::found::Found;
 use type_object::Pool;
 use type_trees::XType;
 use xt_shapes::Rep;
@@ -12,11 +16,14 @@ pub(crate) struct Stream {
     pub(crate) yes: bool,
 }
 
-/// A reader's type, the objects so far, and the stream, once there was one.
+/// A reader's type, the objects so far, and the stream, once there was one. What was found of the last stream's type is kept, so that many
+/// streams of a type cost one verdict; it is forgotten where an object comes that was not there.
 #[derive(Drop)]
 pub struct Replayer {
     pub(crate) reader: XType,
     pub(crate) pool: Pool,
     pub(crate) stream: Option<Stream>,
+    pub(crate) last: Option<Found>,
     ghost valid: { IsValid reader },
+    ghost so: { ForSome last (λ found. IsSo (tree reader) pool found) },
 }

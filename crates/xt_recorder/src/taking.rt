@@ -1,18 +1,21 @@
 // Recordings, read by a type of today.
-ghost use Rattle.std.specs.Prelude.{◌≡◌, IfOk, IfErr, OnErr, OnOk, Ok, Err, None, true};
+ghost use Rattle.std.specs.Prelude.{◌≡◌, IfOk, IfErr, IfSome, OnErr, OnOk, Ok, Err, None, Some, true};
 ghost use Rattle.type_trees.specs.Bridge.{type_shape};
 ghost use Rattle.type_trees.specs.View.{tree};
 ghost use Rattle.projection_laws.specs.Premises.{IsValid};
 ghost use Rattle.xt_recorder.specs.Replays as spec;
 ghost use Rattle.assignability.specs.Views.{verdict_view};
+ghost use Rattle.type_object.specs.Faults as pool_faults;
 ghost use Rattle.type_object.specs.Pools.{added};
 ghost use Rattle.object_walks.specs.Resolving.{resolved};
 ghost use Rattle.xcdr_model.specs.Samples.{read_sample};
 ghost use Rattle.xt_recorder.specs.Streams.{stream_of};
 ghost use Rattle.xt_recorder.specs.declared.replayed.ReplayFault.TheVariants as faults;
 ghost use Rattle.xt_recorder.specs.Answers.{answer, Refuses};
+ghost use Rattle.xt_recorder.specs.Judged.{judged};
 ghost use Rattle.xt_recorder.specs.Replaying.{reader_of, state_of};
 
+use crate::found::Found;
 use crate::replayed::{ReplayFault, Replayed};
 use crate::replayer::{Replayer, Stream};
 use crate::streams::stream_of;
@@ -54,6 +57,7 @@ impl Replayer {
             reader,
             pool,
             stream: None,
+            last: None,
         }
     }
 
@@ -65,24 +69,51 @@ impl Replayer {
         &self.reader
     }
 
+    // Adds an object. Where it was not there, what was found of a type is forgotten.
+    fn add(&mut self, payload: &[u8]) -> Result<HashId, PoolFault>
+        ensures ok { IfOk result (λ id. added self.old.pool payload.now ≡ Ok (id, self.new.pool)) }
+        ensures err { IfErr result (λ fault. pool_faults.Refuses fault (added self.old.pool payload.now)) }
+        ensures unchanged { OnErr result (self.new.pool ≡ self.old.pool) }
+        ensures reader { reader_of self.new ≡ reader_of self.old }
+        ensures stream { self.new.stream ≡ self.old.stream }
+    {
+        let count = self.pool.len();
+        let added = self.pool.add(payload);
+        if self.pool.len() != count {
+            self.last = None;
+        }
+        added
+    }
+
     fn object(&mut self, payload: &[u8]) -> Result<Replayed, ReplayFault>
         ensures ok { IfOk result (λ replayed. spec.object_taken (state_of self.old) (added self.old.pool payload.now) ≡ Ok (answer replayed, state_of self.new)) }
         ensures err { IfErr result (λ fault. Refuses fault (spec.object_taken (state_of self.old) (added self.old.pool payload.now))) }
         ensures reader { reader_of self.new ≡ reader_of self.old }
         ensures unchanged { OnErr result (state_of self.new ≡ state_of self.old) }
     {
-        match self.pool.add(payload) {
+        match self.add(payload) {
             Ok(_) => Ok(Replayed::Nothing),
             Err(PoolFault::OutOfMemory) => Err(ReplayFault::OutOfMemory),
             Err(fault) => Err(ReplayFault::Pool(fault)),
         }
     }
 
-    fn begin(&mut self, alloc: Global, id: HashId, rep: Rep) -> Result<Replayed, ReplayFault>
-        ensures ok { IfOk result (λ replayed. spec.stream_begun (reader_of self.old) (state_of self.old) id rep (resolved self.old.pool id) ≡ Ok (answer replayed, state_of self.new)) }
+    // What was found of a type in a representation, where it is kept.
+    fn kept(&self, id: &HashId, rep: Rep) -> Option<Verdict>
+        ensures { IfSome result (λ verdict. judged (reader_of self.now) rep (resolved self.now.pool id.now) ≡ Some (verdict_view verdict)) }
+    {
+        match &self.last {
+            Some(found) => found.verdict(id, rep),
+            None => None,
+        }
+    }
+
+    // Whether the reader's type is assignable from that of an identifier.
+    fn judge_anew(&mut self, alloc: Global, id: HashId, rep: Rep) -> Result<Verdict, ReplayFault>
+        ensures ok { IfOk result (λ verdict. judged (reader_of self.old) rep (resolved self.old.pool id) ≡ Some (verdict_view verdict)) }
         ensures err { IfErr result (λ fault. Refuses fault (spec.stream_begun (reader_of self.old) (state_of self.old) id rep (resolved self.old.pool id))) }
         ensures reader { reader_of self.new ≡ reader_of self.old }
-        ensures unchanged { OnErr result (state_of self.new ≡ state_of self.old) }
+        ensures state { state_of self.new ≡ state_of self.old }
     {
         let ty = match resolve(alloc, &self.pool, &id) {
             Ok(ty) => ty,
@@ -94,9 +125,37 @@ impl Replayer {
         }
         is_within_limits();
         let verdict = judge(rep, &self.reader, &ty);
-        let yes = is_yes(&verdict);
-        self.stream = Some(Stream { rep, yes });
-        Ok(Replayed::Stream { id, rep, verdict })
+        self.last = Found::new(id, rep, &verdict);
+        Ok(verdict)
+    }
+
+    // The verdict that is kept, or else a new one.
+    fn verdict(&mut self, alloc: Global, id: HashId, rep: Rep) -> Result<Verdict, ReplayFault>
+        ensures ok { IfOk result (λ verdict. judged (reader_of self.old) rep (resolved self.old.pool id) ≡ Some (verdict_view verdict)) }
+        ensures err { IfErr result (λ fault. Refuses fault (spec.stream_begun (reader_of self.old) (state_of self.old) id rep (resolved self.old.pool id))) }
+        ensures reader { reader_of self.new ≡ reader_of self.old }
+        ensures state { state_of self.new ≡ state_of self.old }
+    {
+        match self.kept(&id, rep) {
+            Some(verdict) => Ok(verdict),
+            None => self.judge_anew(alloc, id, rep),
+        }
+    }
+
+    fn begin(&mut self, alloc: Global, id: HashId, rep: Rep) -> Result<Replayed, ReplayFault>
+        ensures ok { IfOk result (λ replayed. spec.stream_begun (reader_of self.old) (state_of self.old) id rep (resolved self.old.pool id) ≡ Ok (answer replayed, state_of self.new)) }
+        ensures err { IfErr result (λ fault. Refuses fault (spec.stream_begun (reader_of self.old) (state_of self.old) id rep (resolved self.old.pool id))) }
+        ensures reader { reader_of self.new ≡ reader_of self.old }
+        ensures unchanged { OnErr result (state_of self.new ≡ state_of self.old) }
+    {
+        match self.verdict(alloc, id, rep) {
+            Ok(verdict) => {
+                let yes = is_yes(&verdict);
+                self.stream = Some(Stream { rep, yes });
+                Ok(Replayed::Stream { id, rep, verdict })
+            }
+            Err(fault) => Err(fault),
+        }
     }
 
     fn note(&mut self, alloc: Global, payload: &[u8]) -> Result<Replayed, ReplayFault>

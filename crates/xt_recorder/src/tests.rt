@@ -57,7 +57,7 @@ fn word(replayed: &Result<Replayed, ReplayFault>) -> &'static str {
     }
 }
 
-// Replays the recording: the object, the stream, and the samples, of which one is tried before the stream begins.
+// Replays the recording: the object, the stream, and the samples, of which one is tried before the stream begins; then a stream again.
 fn replay(rt: &impl Abort, alloc: Global, replayer: &mut Replayer, octets: &[u8]) {
     let mut reader = BundleReader::new(SureSource::new(octets));
     let object = next(rt, alloc, &mut reader);
@@ -69,6 +69,10 @@ fn replay(rt: &impl Abort, alloc: Global, replayer: &mut Replayer, octets: &[u8]
     assert!(rt; word(&replayer.take(alloc, &note)) == "yes");
     assert!(rt; word(&replayer.take(alloc, &whole)) == "sample");
     assert!(rt; word(&replayer.take(alloc, &cut)) == "malformed");
+    // a second stream of the same type
+    assert!(rt; word(&replayer.take(alloc, &object)) == "nothing");
+    assert!(rt; word(&replayer.take(alloc, &note)) == "yes");
+    assert!(rt; word(&replayer.take(alloc, &whole)) == "sample");
 }
 
 // A reader by the type of the object.
