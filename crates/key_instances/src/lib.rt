@@ -3,8 +3,6 @@
 
 mod entry;
 mod instances;
-#[cfg(test)]
-mod tests;
 
 pub use instances::{Instances, PutFault};
 pub use key_octets::{hash_of, key_hash, key_octets, short_key};

@@ -5,8 +5,6 @@ mod hashes;
 mod lengths;
 mod order;
 mod parts;
-#[cfg(test)]
-mod tests;
 
 pub use hashes::{hash_of, key_hash};
 pub use lengths::short_key;

@@ -7,8 +7,6 @@ mod identifiers;
 mod lists;
 mod parts;
 mod reader;
-#[cfg(test)]
-mod tests;
 
 pub use bodies::read_object;
 pub use identifiers::ek_of;

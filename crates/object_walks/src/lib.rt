@@ -9,8 +9,6 @@ mod place;
 mod resolving;
 mod stops;
 mod structure_parts;
-#[cfg(test)]
-mod tests;
 mod walk;
 
 pub use laws::{parts_are_walked, resolved_is_walked, tree_is_one};

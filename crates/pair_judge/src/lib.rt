@@ -11,8 +11,6 @@ mod pairs;
 mod parts;
 mod question;
 mod stops;
-#[cfg(test)]
-mod tests;
 
 pub use assignability::Verdict;
 pub use judge::{judge_pairs, judge_pairs_under};

@@ -3,8 +3,6 @@
 
 mod laws;
 mod names;
-#[cfg(test)]
-mod tests;
 
 pub use laws::{objects_are_well_formed, parts_resolve, resolves_to_itself, valid_resolves};
 pub use names::is_named;

@@ -5,8 +5,6 @@ mod keeping;
 mod laws;
 mod lines;
 mod putting;
-#[cfg(test)]
-mod tests;
 
 pub use keeping::LastSamples;
 pub use laws::keeps_last;

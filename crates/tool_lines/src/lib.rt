@@ -3,8 +3,6 @@
 
 mod outcomes;
 mod records;
-#[cfg(test)]
-mod tests;
 mod verdicts;
 
 pub use outcomes::{malformed_text, outcome_text, value_text};

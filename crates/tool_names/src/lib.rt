@@ -5,8 +5,6 @@ mod identified;
 mod meanings;
 mod named;
 mod refusals;
-#[cfg(test)]
-mod tests;
 
 pub use identified::id_named;
 pub use meanings::{Meaning, meant};

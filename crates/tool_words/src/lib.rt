@@ -6,8 +6,6 @@ mod depths;
 mod numbers;
 mod policies;
 mod references;
-#[cfg(test)]
-mod tests;
 
 pub use commands::{Command, Pair, command_of};
 pub use depths::Depth;

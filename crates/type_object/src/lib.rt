@@ -5,8 +5,6 @@ mod entry;
 mod gathering;
 mod identifiers;
 mod pool;
-#[cfg(test)]
-mod tests;
 
 pub use gathering::references;
 pub use identifiers::{hash_of, kind_of, named};

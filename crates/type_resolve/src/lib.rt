@@ -9,8 +9,6 @@ mod laws;
 mod objects;
 mod parts;
 mod sides;
-#[cfg(test)]
-mod tests;
 mod walk;
 
 pub use defining::{has_objects, objects_of};

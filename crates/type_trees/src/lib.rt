@@ -8,8 +8,6 @@ mod ids;
 mod kinds;
 mod names;
 mod path;
-#[cfg(test)]
-mod tests;
 mod types;
 mod values;
 

@@ -6,6 +6,3 @@ mod texts;
 
 pub use scalars::{read_enum, read_mask, read_presence, read_prim};
 pub use texts::read_text;
-
-#[cfg(test)]
-mod tests;

@@ -2,8 +2,6 @@
 #![tactic(auto)]
 
 mod digits;
-#[cfg(test)]
-mod tests;
 mod writer;
 
 pub use digits::{octets_of, raw};

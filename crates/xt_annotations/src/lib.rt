@@ -12,8 +12,6 @@ mod notes;
 mod parameters;
 mod places;
 mod reading;
-#[cfg(test)]
-mod tests;
 
 pub use members::{apply_member, apply_notes};
 pub use notes::{Note, NoteFault, Noted, Placed, Refused, RuleFault};

@@ -4,8 +4,6 @@
 
 mod leading;
 mod reading;
-#[cfg(test)]
-mod tests;
 
 pub use idl_input::IdlFault;
 pub use idl_printer::print;

@@ -8,8 +8,6 @@ mod replayed;
 mod replayer;
 mod streams;
 mod taking;
-#[cfg(test)]
-mod tests;
 mod writing;
 
 pub use closing::closed;

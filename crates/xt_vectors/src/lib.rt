@@ -8,8 +8,6 @@ mod pairs;
 mod plans;
 mod readers;
 mod runs;
-#[cfg(test)]
-mod tests;
 mod types;
 mod values;
 
