@@ -1,5 +1,5 @@
-ghost use Rattle.std.specs.Prelude.{◌≡◌, ◌≤◌, ◌+◌, None, IfOk, length};
-ghost use Rattle.tool_output.specs.Runs.{MayGo, StopsReading, turns_left};
+ghost use Rattle.std.specs.Prelude.{◌≡◌, ◌≤◌, ◌+◌, None, IfErr, IfOk, length};
+ghost use Rattle.tool_output.specs.Runs.{MayGo, StopsBundle, StopsReading, turns_left};
 ghost use Rattle.tool_front.specs.Fronts as spec;
 ghost use Rattle.tool_front.specs.Reading.{AreWithin, FrontIs};
 
@@ -44,6 +44,7 @@ pub fn read_front<S: Source>(alloc: Global, reader: &mut BundleReader<S>) -> Res
     ensures front { FrontIs reader.old.ahead result reader.new }
     ensures within { IfOk result (λ front. AreWithin front.records) }
     ensures ready { IfOk result (λ front. MayGo front.next reader.new) }
+    ensures cause { IfErr result StopsBundle }
     ensures few { IfOk result (λ front. length front.records + turns_left front.next reader.new.may_follow ≤ reader.old.may_follow) }
     ensures stops { StopsReading reader.old.faults reader.new.faults result }
     ensures same { reader.new.name ≡ reader.old.name }

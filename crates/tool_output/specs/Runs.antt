@@ -10,6 +10,7 @@ use Rattle.xt_io.specs.declared.RecordFault.TheVariants as record_fault
 use Rattle.xt_io.specs.Bundles.{Bundle, limit_of, nothing, only_fault, cut, with_payload, before_bundle, item_of}
 use Rattle.xt_io.specs.Readers.{Reading, inside}
 use Rattle.tool_output.specs.declared.ending.Ending.{Ending}
+use Rattle.tool_output.specs.declared.ending.Cause.TheVariants as causes
 use Rattle.tool_output.specs.declared.ending.Style.{Style}
 use Rattle.tool_output.specs.declared.turns.Next.{Next}
 use Rattle.tool_output.specs.declared.halt.Halt.{Halt}
@@ -106,6 +107,11 @@ Steps style output rest (Err (stops.Halted halt)) old new = Writes output (Err h
 abbrev pub Refuses : Refusal → Stop → Type 0
 Refuses said (stops.Refused r) = refusal r ≡ said
 Refuses said (stops.Halted halt) = halt ≡ halts.OutOfMemory
+
+-- a refusal is a fault of the bundle
+abbrev pub StopsBundle : Stop → Type 0
+StopsBundle (stops.Refused r) = r.cause ≡ causes.Bundle
+StopsBundle (stops.Halted halt) = Unit {0}
 
 -- What a call that reads and writes nothing answers: what the definition gives, or its refusal, or want of memory.
 abbrev pub Comes : {A X : Type 0} → Result A Refusal → (X → A) → Result X Stop → Type 0

@@ -1,8 +1,8 @@
-ghost use Rattle.std.specs.Prelude.{◌≡◌, ◌≤◌, ◌+◌, None, IfOk, OnOk, length};
+ghost use Rattle.std.specs.Prelude.{◌≡◌, ◌≤◌, ◌+◌, None, IfErr, IfOk, OnOk, length};
 ghost use Rattle.std.specs.Option.{option_map};
 ghost use Rattle.std.specs.Io.KnownBytes.{IsAtEnd};
 ghost use Rattle.xt_io.specs.Outside.{KeepsTold};
-ghost use Rattle.tool_output.specs.Runs.{coming, turns_left, IsReady, MayGo, GoesOn, Steps, Stops, HaltsReading, StopsReading, StopsFor, TakesPayload, PassesOther, at_number};
+ghost use Rattle.tool_output.specs.Runs.{coming, turns_left, IsReady, MayGo, GoesOn, Steps, Stops, HaltsReading, StopsReading, StopsBundle, StopsFor, TakesPayload, PassesOther, at_number};
 ghost use Rattle.tool_output.specs.Outputs.{same_kind};
 ghost use Rattle.tool_output.specs.declared.turns.Next.TheVariants.{Record};
 ghost use Rattle.xt_io.specs.Bundles.{limit_of, nothing};
@@ -65,6 +65,7 @@ pub fn payload_of<S: Source>(
     ensures takes { TakesPayload head (λ t octets. octets ≡ t) (coming (Record head) reader.old) reader.new.ahead result }
     ensures size { IfOk result (λ t. length t ≤ limit_of head.kind) }
     ensures on { OnOk result (GoesOn reader.old reader.new) }
+    ensures cause { IfErr result StopsBundle }
     ensures stops { StopsReading reader.old.faults reader.new.faults result }
     ensures same { reader.new.name ≡ reader.old.name }
 {
@@ -93,6 +94,7 @@ pub fn pass_other<S: Source>(
     requires { IsReady head reader }
     ensures passes { PassesOther head (coming (Record head) reader) result.0.ahead result.1 }
     ensures on { OnOk result.1 (GoesOn reader result.0) }
+    ensures cause { IfErr result.1 StopsBundle }
     ensures stops { StopsReading reader.faults result.0.faults result.1 }
     ensures same { result.0.name ≡ reader.name }
 {

@@ -1,8 +1,8 @@
 //! A body in which nothing has a place but Notes.
-ghost use Rattle.std.specs.Prelude.{◌≡◌, OnOk};
+ghost use Rattle.std.specs.Prelude.{◌≡◌, IfErr, OnOk};
 ghost use Rattle.std.specs.Option.{option_map};
 ghost use Rattle.std.specs.Io.KnownBytes.{IsAtEnd};
-ghost use Rattle.tool_output.specs.Runs.{ComesTold, MayGo, StopsReading, coming};
+ghost use Rattle.tool_output.specs.Runs.{ComesTold, MayGo, StopsBundle, StopsReading, coming};
 ghost use Rattle.tool_front.specs.Fronts.{closed};
 
 use std::alloc::Global;
@@ -18,6 +18,7 @@ pub fn close_body<S: Source>(
     requires { MayGo begun reader }
     ensures closed { ComesTold (option_map closed (coming begun reader)) (λ u. u) result.1 }
     ensures ended { OnOk result.1 (IsAtEnd result.0.left) }
+    ensures cause { IfErr result.1 StopsBundle }
     ensures stops { StopsReading reader.faults result.0.faults result.1 }
     ensures same { result.0.name ≡ reader.name }
 {

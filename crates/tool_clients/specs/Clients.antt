@@ -1,0 +1,66 @@
+-- What the commands may write that ask a peer (own).
+use Rattle.std.specs.Prelude.{◌≡◌, ℕ, List, [], ◌∷◌, ◌⊎◌, map, Option, Some, Result, Ok, Err, IfOk, IsErrOf}
+use Rattle.std.specs.List.{All}
+use Rattle.xt_io.specs.Outside.{Rose}
+use Rattle.xt_io.specs.Links.{IsToldAs, IsHeardFrom, heard_of}
+use Rattle.type_trees.specs.declared.types.HashId.{HashId}
+use Rattle.type_object.specs.Pools.{Texts}
+use Rattle.lookup_messages.specs.declared.messages.Fetched.{Fetched}
+use Rattle.lookup_fetch.specs.declared.faults.FetchFault.{FetchFault}
+use Rattle.lookup_fetch.specs.declared.faults.FetchFault.TheVariants as fetch
+use Rattle.lookup_fetch.specs.Fetches.{Fetches}
+use Rattle.lookup_fetch.specs.Plans.{IsOwn}
+use Rattle.mirror_rounds.specs.declared.told.Told.{Told}
+use Rattle.mirror_rounds.specs.declared.told.PushFault.{PushFault}
+use Rattle.mirror_rounds.specs.declared.told.PushFault.TheVariants as push
+use Rattle.mirror_rounds.specs.Rounds.{start}
+use Rattle.mirror_rounds.specs.Pushes.{Pushes}
+use Rattle.tool_output.specs.declared.ending.Style.TheVariants.{Lines, Records}
+use Rattle.tool_output.specs.Outputs.{Output}
+use Rattle.tool_nets.specs.Nets.{Net, Fails}
+use Rattle.tool_clients.specs.Lines.{fetch_output, push_output}
+
+-- The link that was given back was one to this address. Where the net tells what it heard there, it is these octets that were got and sent,
+-- and whether the input had ended is what was left of it.
+pub record HeardOver (to : List ℕ) (net : Net) (got sent : List ℕ) (left : Option (List ℕ)) : Type 0 where
+  pub address : IsToldAs net.address to
+  pub heard : IsHeardFrom net.heard (heard_of (Some got) (Some sent) left)
+
+-- ---- fetch
+
+-- A fetch of this object and all that it refers to: what was got and sent, and what it came to. It says that the net failed only where it did.
+pub record FetchSaid (to : List ℕ) (id : HashId) (net : Net) (output : Output) : Type 0 where
+  pub result : Result (List Fetched) FetchFault
+  pub got : List ℕ
+  pub sent : List ℕ
+  pub left : Option (List ℕ)
+  pub fetches : Fetches (id ∷ []) 1 [] got sent left result
+  pub own : IfOk result (All IsOwn)
+  pub over : HeardOver to net got sent left
+  pub said : fetch_output result ≡ Some output
+  pub failed : IsErrOf result fetch.LinkFault → Rose net.before net.now
+
+-- what may be written: that the net failed, or what the fetch came to
+abbrev pub FetchAllows : List ℕ → HashId → Net → Output → Type 0
+FetchAllows to id net output = Fails Records net output ⊎ FetchSaid to id net output
+
+-- ---- mirror
+
+-- the objects of a pool, in order
+abbrev pub objects_in : Texts → List Fetched
+objects_in pool = map (λ entry. record { id = entry.0; octets = entry.1 }) pool
+
+-- A push of these objects, where texts are hashed so: what was got and sent, and what it came to. It says that the net failed only where it did.
+pub record PushSaid (name : List ℕ → List ℕ) (to : List ℕ) (objects : List Fetched) (net : Net) (output : Output) : Type 0 where
+  pub result : Result (List Told) PushFault
+  pub got : List ℕ
+  pub sent : List ℕ
+  pub left : Option (List ℕ)
+  pub pushes : Pushes name 1 (start objects) got sent left result
+  pub over : HeardOver to net got sent left
+  pub said : push_output result ≡ Some output
+  pub failed : IsErrOf result push.LinkFault → Rose net.before net.now
+
+-- what may be written: that the net failed, or what the push came to
+abbrev pub PushAllows : (List ℕ → List ℕ) → List ℕ → List Fetched → Net → Output → Type 0
+PushAllows name to objects net output = Fails Lines net output ⊎ PushSaid name to objects net output

@@ -1,0 +1,11 @@
+//! The commands that ask a peer over the net: an object and all that it refers to, and what becomes of objects that are pushed.
+#![tactic(auto)]
+
+mod fetching;
+mod mirroring;
+
+#[cfg(test)]
+mod tests;
+
+pub use fetching::fetch_from;
+pub use mirroring::{mirror_objects, mirror_to};

@@ -1,0 +1,8 @@
+//! What the commands over a net have in common: the bundle that they read first, and how they end where the net failed.
+#![tactic(auto)]
+
+mod faults;
+mod opening;
+
+pub use faults::end_failed;
+pub use opening::open_pool;

@@ -1,0 +1,9 @@
+//! The command that serves objects to peers: a registry of the objects, and workers with a door and a pass each.
+#![tactic(auto)]
+
+mod registering;
+mod serving;
+#[cfg(test)]
+mod tests;
+
+pub use serving::{serve_at, serve_pool};
