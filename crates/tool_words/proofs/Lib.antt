@@ -1,2 +1,3 @@
 pub mod Valued
 pub mod Settled
+pub mod Known

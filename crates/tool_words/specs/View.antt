@@ -6,6 +6,8 @@ use Rattle.tool_words.specs.declared.references.Reference.{Reference}
 use Rattle.tool_words.specs.declared.commands.Pair.{Pair}
 use Rattle.tool_words.specs.declared.commands.Command.{Command}
 use Rattle.tool_words.specs.declared.commands.Command.TheVariants as command
+use Rattle.tool_words.specs.declared.peers.NetCommand.{NetCommand}
+use Rattle.tool_words.specs.declared.peers.NetCommand.TheVariants as peers
 use Rattle.tool_words.specs.Words as spec
 
 abbrev pub form_view : Form → spec.Form
@@ -31,3 +33,8 @@ command_view (command.Instances pair depth) = spec.instances (pair_view pair) de
 command_view (command.Record ty rep) = spec.keep (reference_view ty) rep
 command_view (command.Replay ty) = spec.replay (reference_view ty)
 command_view (command.Make seed count) = spec.make seed count
+
+abbrev pub net_view : NetCommand → spec.NetCommand
+net_view (peers.Serve to service) = spec.serve to.now service.workers service.turns
+net_view (peers.Fetch to asked) = spec.fetch to.now asked.id
+net_view (peers.Mirror to) = spec.mirror to.now

@@ -157,9 +157,13 @@ unfoldable pub wrap_words : List (List ℕ) → Option Command
 wrap_words (kind ∷ []) = option_map wrap (kind_word kind)
 wrap_words words = None
 
+-- a number below the most that is not 0
+abbrev pub count_below : ℕ → List ℕ → Option ℕ
+count_below most word = with (number_below most word) (λ n. if n == 0 then None else Some n)
+
 -- how many values are kept of each key: 1 to 1,024
 abbrev pub depth_of : List ℕ → Option ℕ
-depth_of word = with (number_below 1025 word) (λ n. if n == 0 then None else Some n)
+depth_of word = count_below 1025 word
 
 -- the standard's own policy
 unfoldable pub instances_words : List (List ℕ) → Option Command
@@ -201,3 +205,41 @@ command_by name words =
 unfoldable pub command_of : List (List ℕ) → Option Command
 command_of [] = None
 command_of (name ∷ words) = command_by name words
+
+-- ---- commands over a net
+
+-- What is asked of peers, or what they may ask, at an address: objects are served by so many workers, so many links each; an object is
+-- fetched; objects are pushed.
+pub data NetCommand : Type 0 where
+  serve : List ℕ → ℕ → ℕ → NetCommand
+  fetch : List ℕ → HashId → NetCommand
+  mirror : List ℕ → NetCommand
+
+-- 1 to 255 octets, whatever they are
+abbrev pub address_of : List ℕ → Option (List ℕ)
+address_of word = if nat_lt 0 (length word) && nat_lt (length word) 256 then Some word else None
+
+-- 1 to 64 workers, and 0 to 1,000,000 links for each
+unfoldable pub serve_words : List (List ℕ) → Option NetCommand
+serve_words (to ∷ workers ∷ turns ∷ []) = with (address_of to) (λ a. with (count_below 65 workers) (λ w. option_map (serve a w) (number_below 1000001 turns)))
+serve_words words = None
+
+unfoldable pub fetch_words : List (List ℕ) → Option NetCommand
+fetch_words (to ∷ id ∷ []) = with (address_of to) (λ a. option_map (fetch a) (id_of_digits id))
+fetch_words words = None
+
+unfoldable pub mirror_words : List (List ℕ) → Option NetCommand
+mirror_words (to ∷ []) = option_map mirror (address_of to)
+mirror_words words = None
+
+unfoldable pub net_command_by : List ℕ → List (List ℕ) → Option NetCommand
+net_command_by name words =
+    if bytes_eq name (codes "serve") then serve_words words
+    else if bytes_eq name (codes "fetch") then fetch_words words
+    else if bytes_eq name (codes "mirror") then mirror_words words
+    else None
+
+-- what the words ask over a net
+unfoldable pub net_command_of : List (List ℕ) → Option NetCommand
+net_command_of [] = None
+net_command_of (name ∷ words) = net_command_by name words

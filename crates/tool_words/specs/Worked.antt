@@ -3,11 +3,11 @@ use Rattle.std.specs.Prelude.{◌≡◌, ℕ, true, false, [], ◌∷◌, Some, 
 use Rattle.xt_shapes.specs.declared.leaves.Rep.TheVariants.{Xcdr1, Xcdr2}
 use Rattle.xt_io.specs.declared.Kind.TheVariants.{Json}
 use Rattle.xcdr_model.specs.Policies.{standard}
-use Rattle.tool_words.specs.Words.{Form, plain, within, Reference, Command, judge, read, convert, show, wrap, form_of, in_record_form, told, settings, policy_behind, policy_word, policy_of, pair_words, convert_words, write_words, wrap_words, instances, instances_words, record_words, replay_words, make, make_words, command_by, command_of}
+use Rattle.tool_words.specs.Words.{Form, plain, within, Reference, Command, judge, read, convert, show, wrap, form_of, in_record_form, told, settings, policy_behind, policy_word, policy_of, pair_words, convert_words, write_words, wrap_words, instances, instances_words, record_words, replay_words, make, make_words, serve, fetch, mirror, serve_words, fetch_words, mirror_words, net_command_by, net_command_of, command_by, command_of}
 
 -- all that words unfold
 unfoldable words_read : ℕ
-unfolding in_record_form form_of told settings policy_behind policy_word policy_of pair_words convert_words write_words wrap_words instances_words record_words replay_words make_words command_by command_of
+unfolding in_record_form form_of told settings policy_behind policy_word policy_of pair_words convert_words write_words wrap_words instances_words record_words replay_words make_words serve_words fetch_words mirror_words net_command_by net_command_of command_by command_of
 words_read = 0
 
 -- ---- types
@@ -78,3 +78,38 @@ greatest_seed = refl
 pub seed_too_large : command_of (codes "make" ∷ codes "18446744073709551616" ∷ codes "0" ∷ []) ≡ None
 unfolding words_read
 seed_too_large = refl
+
+-- ---- commands over a net
+
+pub serves : net_command_of (codes "serve" ∷ codes "here" ∷ codes "64" ∷ codes "1000000" ∷ []) ≡ Some (serve (codes "here") 64 1000000)
+unfolding words_read
+serves = refl
+
+pub serves_none : net_command_of (codes "serve" ∷ codes "here" ∷ codes "2" ∷ codes "0" ∷ []) ≡ Some (serve (codes "here") 2 0)
+unfolding words_read
+serves_none = refl
+
+pub no_workers : net_command_of (codes "serve" ∷ codes "here" ∷ codes "0" ∷ codes "1" ∷ []) ≡ None
+unfolding words_read
+no_workers = refl
+
+pub too_many_workers : net_command_of (codes "serve" ∷ codes "here" ∷ codes "65" ∷ codes "1" ∷ []) ≡ None
+unfolding words_read
+too_many_workers = refl
+
+-- digits of either case
+pub fetches : net_command_of (codes "fetch" ∷ codes "here" ∷ codes "F1000102030405060708090a0B0C0d" ∷ []) ≡ Some (fetch (codes "here") (record { kind = 241; hash = 0 ∷ 1 ∷ 2 ∷ 3 ∷ 4 ∷ 5 ∷ 6 ∷ 7 ∷ 8 ∷ 9 ∷ 10 ∷ 11 ∷ 12 ∷ 13 ∷ [] }))
+unfolding words_read
+fetches = refl
+
+pub no_kind : net_command_of (codes "fetch" ∷ codes "here" ∷ codes "f3000102030405060708090a0b0c0d" ∷ []) ≡ None
+unfolding words_read
+no_kind = refl
+
+pub mirrors : net_command_of (codes "mirror" ∷ codes "here" ∷ []) ≡ Some (mirror (codes "here"))
+unfolding words_read
+mirrors = refl
+
+pub no_address : net_command_of (codes "mirror" ∷ [] ∷ []) ≡ None
+unfolding words_read
+no_address = refl

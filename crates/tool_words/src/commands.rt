@@ -4,7 +4,7 @@ ghost use Rattle.tool_words.specs.Words as spec;
 ghost use Rattle.tool_words.specs.View.{pair_view, command_view};
 
 use crate::depths::Depth;
-use crate::numbers::{long_number, number_below};
+use crate::numbers::{count_below, long_number, number_below};
 use crate::policies::policy_of;
 use crate::references::{Reference, named_by};
 use xcdr_model::Policy;
@@ -147,12 +147,8 @@ fn wrap_words(words: &[Word]) -> Option<Command<'_>>
 fn depth_of(word: &[u8]) -> Option<Depth>
     ensures { option_map (λ depth. depth.count) result ≡ spec.depth_of word.now }
 {
-    let count = number_below(1025, word)?;
-    if count == 0 {
-        None
-    } else {
-        Some(Depth { count })
-    }
+    let count = count_below(1025, word)?;
+    Some(Depth { count })
 }
 
 #[tactic(auto, unfolding(crate::specs::Words::instances_words))]

@@ -58,6 +58,16 @@ pub fn number_below(most: u32, text: &[u8]) -> Option<u32>
     Some(number as u32)
 }
 
+/// The same, unless it is 0.
+pub fn count_below(most: u32, text: &[u8]) -> Option<u32>
+    ensures value { result ≡ spec.count_below most text.now }
+    ensures some { IfSome result (λ count. 1 ≤ count) }
+    ensures below { IfSome result (λ count. count < most) }
+{
+    let count = number_below(most, text)?;
+    if count == 0 { None } else { Some(count) }
+}
+
 /// The number of 64 bits that decimal digits without a leading zero spell.
 pub fn long_number(text: &[u8]) -> Option<u64>
     ensures { result ≡ spec.long_number text.now }

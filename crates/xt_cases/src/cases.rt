@@ -1,16 +1,18 @@
 //! A case: the words and the input of a run, and the output and the status that are wanted.
 
+use crate::nets::Outside;
 use crate::trouble::Trouble;
 use std::alloc::Global;
 use xt_io::Kind;
 use xt_lists::{Row, Text, Word};
 
-/// The words and the input of a run, and what is wanted of it.
+/// The words, the input and the net of a run, and what is wanted of it.
 #[derive(Debug, Drop)]
 pub struct Case {
     pub name: String,
     pub words: Row<Word>,
     pub input: Text,
+    pub net: Outside,
     pub output: Text,
     pub status: u8,
 }
@@ -22,7 +24,9 @@ enum Part {
     Name,
     Words,
     Input,
+    Net,
     Output,
+    Taken,
     Status,
 }
 
@@ -31,7 +35,9 @@ fn part_of(word: &str) -> Part {
     match word {
         "case" => Part::Name,
         "words" => Part::Words,
+        "link" | "door" | "turn" | "net-fails" => Part::Net,
         "line" | "out" => Part::Output,
+        "sent" | "held" => Part::Taken,
         "status" => Part::Status,
         _ => Part::Input,
     }
@@ -44,9 +50,9 @@ fn may_follow(before: Part, next: Part) -> bool {
         Part::Name => before == Part::Front,
         Part::Words => before == Part::Name,
         Part::Input => matches!(before, Part::Words | Part::Input),
-        Part::Output | Part::Status => {
-            matches!(before, Part::Words | Part::Input | Part::Output)
-        }
+        Part::Net => matches!(before, Part::Words | Part::Input | Part::Net),
+        Part::Output => matches!(before, Part::Words | Part::Input | Part::Net | Part::Output),
+        Part::Taken | Part::Status => !matches!(before, Part::Front | Part::Name | Part::Status),
     }
 }
 
@@ -56,6 +62,7 @@ impl Case {
             name: String::new(alloc),
             words: Row::new(alloc),
             input: Text::new(alloc),
+            net: Outside::new(alloc),
             output: Text::new(alloc),
             status: 0,
         }
@@ -93,7 +100,9 @@ impl Case {
             Part::Name => self.take_name(alloc, text)?,
             Part::Words => self.take_words(alloc, text)?,
             Part::Input => append(alloc, &mut self.input, word, text)?,
+            Part::Net => self.net.take(alloc, word, text)?,
             Part::Output => self.take_output(alloc, word, text)?,
+            Part::Taken => self.net.want(alloc, word, text)?,
             Part::Status => self.take_status(text),
         };
         Ok(if taken { Some(part) } else { None })

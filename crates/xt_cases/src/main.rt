@@ -3,6 +3,7 @@
 #![tactic(auto)]
 
 mod cases;
+mod nets;
 mod runs;
 mod trouble;
 

@@ -4,8 +4,7 @@ use crate::cases::Case;
 use crate::trouble::Trouble;
 use std::alloc::Global;
 use std::thread::Threads;
-use xt_io::{MemNet, MemSink, MemSource};
-use xt_lists::Row;
+use xt_io::{MemSink, MemSource};
 use xt_tool::xt;
 
 /// A width that no case reaches.
@@ -53,7 +52,7 @@ fn run_at<R: Threads + Sync>(
 ) -> Result<Option<String>, Trouble> {
     let mut input = MemSource::new(case.input.octets(), read, &[]);
     let mut output = MemSink::new(alloc, write, &[]);
-    let mut net = MemNet::new(alloc, Row::new(alloc), None, Row::new(alloc));
+    let mut net = case.net.net(alloc, read)?;
     let words = case.words.as_slice();
     let status = xt(rt, alloc, words, &mut input, &mut output, &mut net) as u8;
     if output.octets() != case.output.octets() {
@@ -62,6 +61,9 @@ fn run_at<R: Threads + Sync>(
     if status != case.status {
         let wanted = case.status;
         return Ok(Some(format!(in alloc; "status {status}, not {wanted}")?));
+    }
+    if !case.net.is_met(&net) {
+        return Ok(Some(String::from_str(alloc, "other octets for a peer")?));
     }
     Ok(None)
 }

@@ -1,3 +1,4 @@
 pub mod Output
 pub mod Statuses
 pub mod Headline
+pub mod Nets

@@ -1,7 +1,9 @@
 //! The top call: it does what the words of a command line ask, from a source to a sink.
 #![tactic(auto)]
 
+mod answering;
 mod laws;
+mod peers;
 mod run;
 mod status;
 #[cfg(test)]

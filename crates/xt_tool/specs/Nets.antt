@@ -1,0 +1,59 @@
+-- What the words come to that peers have a say in (this profile's own).
+use Rattle.std.specs.Prelude.{◌≡◌, ℕ, ◌⊎◌, List, Option, Some, None, IfSome}
+use Rattle.std.specs.Io.KnownBytes.{Appends}
+use Rattle.xt_io.specs.Outside.{AppendsPrefix}
+use Rattle.type_object.specs.Names.{hash_of}
+use Rattle.tool_output.specs.declared.ending.Style.{Style}
+use Rattle.tool_output.specs.declared.ending.Style.TheVariants.{Lines, Records}
+use Rattle.tool_output.specs.Outputs.{Output}
+use Rattle.tool_words.specs.Words.{Command, NetCommand, serve, fetch, mirror}
+use Rattle.tool_nets.specs.Nets.{Net}
+use Rattle.tool_nets.specs.Opened.{Behind}
+use Rattle.tool_clients.specs.Clients.{FetchAllows, PushAllows, objects_in}
+use Rattle.tool_serving.specs.Serving.{ServeAllows}
+use Rattle.xt_tool.specs.declared.status.Status.{Status}
+use Rattle.xt_tool.specs.declared.status.Status.TheVariants.{Done, No, Words, Bundle, ReadFault, WriteFault, OutOfMemory, Types, NoName, NetFault, Json, Fetch, Limit}
+use Rattle.xt_tool.specs.Output.{TakesInput}
+use Rattle.xt_tool.specs.Statuses.{Writes}
+
+-- the outputs that a command may write, by the octets of its input where they are told, and by the net behind it
+abbrev pub Allowed : NetCommand → Option (List ℕ) → Net → Output → Type 0
+Allowed (serve to workers turns) told net output = Behind told (λ pool. ServeAllows hash_of to workers turns pool net) output
+Allowed (fetch to id) told net output = FetchAllows to id net output
+Allowed (mirror to) told net output = Behind told (λ pool. PushAllows hash_of to (objects_in pool) net) output
+
+-- `fetch` alone reads no input.
+abbrev pub ReadsBundle : NetCommand → Type 0
+ReadsBundle (serve to workers turns) = Unit {0}
+ReadsBundle (fetch to id) = ⊥
+ReadsBundle (mirror to) = Unit {0}
+
+-- whether the words ask a command that reads its input
+abbrev pub ReadsInput : Option NetCommand → Option Command → Type 0
+ReadsInput (Some asked) command = ReadsBundle asked
+ReadsInput None command = IfSome command TakesInput
+
+abbrev pub net_style : NetCommand → Style
+net_style (serve to workers turns) = Lines
+net_style (fetch to id) = Records
+net_style (mirror to) = Lines
+
+-- It was stopped before it had anything to write. Where the source failed a last line says so, or a beginning of it where the sink failed.
+abbrev pub StopsBefore : List ℕ → Status → (SourceRose : Type 0) → Option (List ℕ) → Option (List ℕ) → Type 0
+StopsBefore last ReadFault SourceRose old new = Appends old new last
+StopsBefore last WriteFault SourceRose old new = (new ≡ old) ⊎ (SourceRose × AppendsPrefix old new last)
+StopsBefore last OutOfMemory SourceRose old new = new ≡ old
+StopsBefore last Done SourceRose old new = ⊥
+StopsBefore last No SourceRose old new = ⊥
+StopsBefore last Words SourceRose old new = ⊥
+StopsBefore last Bundle SourceRose old new = ⊥
+StopsBefore last Types SourceRose old new = ⊥
+StopsBefore last NoName SourceRose old new = ⊥
+StopsBefore last NetFault SourceRose old new = ⊥
+StopsBefore last Json SourceRose old new = ⊥
+StopsBefore last Fetch SourceRose old new = ⊥
+StopsBefore last Limit SourceRose old new = ⊥
+
+-- One of the outputs that are allowed was written, whole or by the status a beginning of it; or none was begun.
+abbrev pub WritesIn : (Output → Type 0) → List ℕ → Status → (SourceRose : Type 0) → Option (List ℕ) → Option (List ℕ) → Type 0
+WritesIn Allows last status SourceRose old new = ((output : Output) × Allows output × Writes output last status SourceRose old new) ⊎ StopsBefore last status SourceRose old new
