@@ -1,5 +1,6 @@
 -- Worked words, by computation.
 use Rattle.std.specs.Prelude.{◌≡◌, ℕ, true, false, [], ◌∷◌, Some, None, codes, refl}
+use Rattle.hex.specs.Hex.{decode_pairs}
 use Rattle.xt_shapes.specs.declared.leaves.Rep.TheVariants.{Xcdr1, Xcdr2}
 use Rattle.xt_io.specs.declared.Kind.TheVariants.{Json}
 use Rattle.xcdr_model.specs.Policies.{standard}
@@ -7,7 +8,7 @@ use Rattle.tool_words.specs.Words.{Form, plain, within, Reference, Command, judg
 
 -- all that words unfold
 unfoldable words_read : ℕ
-unfolding in_record_form form_of told settings policy_behind policy_word policy_of pair_words convert_words write_words wrap_words instances_words record_words replay_words make_words serve_words fetch_words mirror_words net_command_by net_command_of command_by command_of
+unfolding in_record_form form_of told settings policy_behind policy_word policy_of pair_words convert_words write_words wrap_words instances_words record_words replay_words make_words serve_words fetch_words mirror_words net_command_by net_command_of command_by command_of decode_pairs
 words_read = 0
 
 -- ---- types
