@@ -1,0 +1,4 @@
+pub mod Heard
+pub mod Pieces
+pub mod Ended
+pub mod Pooled

@@ -28,17 +28,21 @@ pub record HeardOver (to : List ℕ) (net : Net) (got sent : List ℕ) (left : O
 
 -- ---- fetch
 
--- A fetch of this object and all that it refers to: what was got and sent, and what it came to. It says that the net failed only where it did.
-pub record FetchSaid (to : List ℕ) (id : HashId) (net : Net) (output : Output) : Type 0 where
-  pub result : Result (List Fetched) FetchFault
+-- What a fetch of this object and all that it refers to came to, and what was got and sent. It is a fault of the link only where the net failed.
+pub record FetchCame (to : List ℕ) (id : HashId) (net : Net) (result : Result (List Fetched) FetchFault) : Type 0 where
   pub got : List ℕ
   pub sent : List ℕ
   pub left : Option (List ℕ)
   pub fetches : Fetches (id ∷ []) 1 [] got sent left result
   pub own : IfOk result (All IsOwn)
   pub over : HeardOver to net got sent left
-  pub said : fetch_output result ≡ Some output
   pub failed : IsErrOf result fetch.LinkFault → Rose net.before net.now
+
+-- it is what the output says
+pub record FetchSaid (to : List ℕ) (id : HashId) (net : Net) (output : Output) : Type 0 where
+  pub result : Result (List Fetched) FetchFault
+  pub came : FetchCame to id net result
+  pub said : fetch_output result ≡ Some output
 
 -- what may be written: that the net failed, or what the fetch came to
 abbrev pub FetchAllows : List ℕ → HashId → Net → Output → Type 0
@@ -50,16 +54,20 @@ FetchAllows to id net output = Fails Records net output ⊎ FetchSaid to id net 
 abbrev pub objects_in : Texts → List Fetched
 objects_in pool = map (λ entry. record { id = entry.0; octets = entry.1 }) pool
 
--- A push of these objects, where texts are hashed so: what was got and sent, and what it came to. It says that the net failed only where it did.
-pub record PushSaid (name : List ℕ → List ℕ) (to : List ℕ) (objects : List Fetched) (net : Net) (output : Output) : Type 0 where
-  pub result : Result (List Told) PushFault
+-- What a push of these objects came to, where texts are hashed so, and what was got and sent. It is a fault of the link only where the net failed.
+pub record PushCame (name : List ℕ → List ℕ) (to : List ℕ) (objects : List Fetched) (net : Net) (result : Result (List Told) PushFault) : Type 0 where
   pub got : List ℕ
   pub sent : List ℕ
   pub left : Option (List ℕ)
   pub pushes : Pushes name 1 (start objects) got sent left result
   pub over : HeardOver to net got sent left
-  pub said : push_output result ≡ Some output
   pub failed : IsErrOf result push.LinkFault → Rose net.before net.now
+
+-- it is what the output says
+pub record PushSaid (name : List ℕ → List ℕ) (to : List ℕ) (objects : List Fetched) (net : Net) (output : Output) : Type 0 where
+  pub result : Result (List Told) PushFault
+  pub came : PushCame name to objects net result
+  pub said : push_output result ≡ Some output
 
 -- what may be written: that the net failed, or what the push came to
 abbrev pub PushAllows : (List ℕ → List ℕ) → List ℕ → List Fetched → Net → Output → Type 0

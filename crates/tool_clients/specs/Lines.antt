@@ -3,6 +3,7 @@ use Rattle.std.specs.Prelude.{ℕ, List, [], ◌∷◌, ◌++◌, map, Option, S
 use Rattle.hex.specs.Hex.{encode_lower}
 use Rattle.xt_io.specs.declared.Kind.TheVariants.{Object}
 use Rattle.xt_io.specs.Records.{record_octets}
+use Rattle.type_trees.specs.declared.types.HashId.{HashId}
 use Rattle.type_trees.specs.Ids.{id_text}
 use Rattle.lookup_messages.specs.declared.messages.Fetched.{Fetched}
 use Rattle.lookup_fetch.specs.declared.faults.FetchFault.{FetchFault}
@@ -27,13 +28,19 @@ refused_peer text = record { text = text; cause = causes.Fetch }
 abbrev pub object_record : Fetched → List ℕ
 object_record object = record_octets Object object.octets
 
+abbrev pub wrong_hash_text : HashId → HashId → List ℕ
+wrong_hash_text id other = codes "fetch wrong-hash " ++ (id_text id ++ 32 ∷ id_text other)
+
+abbrev pub not_served_text : HashId → List ℕ
+not_served_text id = codes "fetch not-served " ++ id_text id
+
 -- what a fetch comes to; nothing, where memory was wanting
 abbrev pub fetch_output : Result (List Fetched) FetchFault → Option Output
 fetch_output (Ok objects) = Some (only (map object_record objects))
 fetch_output (Err fetch.LinkFault) = Some (refused Records net_fault)
 fetch_output (Err fetch.BadReply) = Some (refused Records (refused_peer (codes "fetch bad-reply")))
-fetch_output (Err (fetch.WrongHash id other)) = Some (refused Records (refused_peer (codes "fetch wrong-hash " ++ (id_text id ++ 32 ∷ id_text other))))
-fetch_output (Err (fetch.NotServed id)) = Some (refused Records (refused_peer (codes "fetch not-served " ++ id_text id)))
+fetch_output (Err (fetch.WrongHash id other)) = Some (refused Records (refused_peer (wrong_hash_text id other)))
+fetch_output (Err (fetch.NotServed id)) = Some (refused Records (refused_peer (not_served_text id)))
 fetch_output (Err fetch.TooMany) = Some (refused Records (refused_peer (codes "fetch too-many")))
 fetch_output (Err fetch.OutOfMemory) = None
 

@@ -3,6 +3,7 @@
 
 mod fetching;
 mod mirroring;
+mod saying;
 
 #[cfg(test)]
 mod tests;
