@@ -96,11 +96,11 @@ IsNet output = output.ending ≡ endings.Refused causes.NetFault
 
 fetch_rose : (to : List ℕ) (id : HashId) (net : Net) (output : Output) → FetchAllows to id net output → IsNet output → Rose net.before net.now
 fetch_rose to id net output (inl fails) is = fails.rose
-fetch_rose to id net output (inr said) is = said.failed (fetch_failed said.result (ap ending_in said.said ∙ is))
+fetch_rose to id net output (inr said) is = said.came.failed (fetch_failed said.result (ap ending_in said.said ∙ is))
 
 push_rose : (to : List ℕ) (objects : List Fetched) (net : Net) (output : Output) → PushAllows hash_of to objects net output → IsNet output → Rose net.before net.now
 push_rose to objects net output (inl fails) is = fails.rose
-push_rose to objects net output (inr said) is = said.failed (push_failed said.result (ap ending_in said.said ∙ is))
+push_rose to objects net output (inr said) is = said.came.failed (push_failed said.result (ap ending_in said.said ∙ is))
 
 serve_rose : (to : List ℕ) (workers turns : ℕ) (pool : Texts) (net : Net) (output : Output) → ServeAllows hash_of to workers turns pool net output → IsNet output → Rose net.before net.now
 serve_rose to workers turns pool net output (inl clash) is = absurd (other (sym (ap (λ (o : Output). o.ending) clash.said) ∙ is))
