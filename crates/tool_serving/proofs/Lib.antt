@@ -1,0 +1,5 @@
+mod Allowed
+mod Entered
+mod Reversed
+mod Told
+mod Worked
