@@ -1,21 +1,16 @@
 -- Objects of a pool that are registered one after another, and passes that know them.
-use Rattle.std.proofs.Common.{◌≡◌, ℕ, ◌+◌, ◌<◌, List, [], ◌∷◌, ◌++◌, map, length, take, get_or, Ok, Err, Some, refl, sym, ap, ◌∙◌, subst, rules}
+use Rattle.std.proofs.Common.{◌≡◌, ℕ, ◌+◌, ◌<◌, List, [], ◌∷◌, ◌++◌, map, length, take, get_or, Some, sym, ap, ◌∙◌, subst}
 use Rattle.std.specs.Prelude.{All, slice_get}
 use Rattle.std.specs.List.{Contains}
 use Rattle.std.proofs.lemmas.List.{map-append, take_more}
 use Rattle.std.proofs.lemmas.List.Elements.{All-map, All-more, All-weaker}
 use Rattle.std.proofs.lemmas.Option.{get_or_from_slice_get, slice_get_within}
 use Rattle.type_trees.specs.declared.types.HashId.{HashId}
-use Rattle.object_formats.specs.declared.faults.Fault.{Fault}
-use Rattle.object_formats.specs.Tables.{object_of}
-use Rattle.type_object.specs.Pools.{Texts, IsObject}
+use Rattle.type_object.specs.Pools.{Texts}
 use Rattle.type_registry.specs.Found.{Found}
 use Rattle.type_registry.specs.Passed.{PassView, Learns, known}
 use Rattle.tool_serving.specs.Registering.{entry_of}
 use Rattle.tool_serving.specs.Serving.{HasPool}
-
-pub is_no_fault : (octets : List ℕ) (fault : Fault) → IsObject octets → object_of octets ≡ Err fault → ⊥
-is_no_fault octets fault is e = let read = is.read in cc
 
 -- one more of the pool was found
 pub entries_more : (pool : Texts) (i : ℕ) (fs : List Found) (f : Found) (e : HashId × List ℕ) → slice_get pool i ≡ Some e → entry_of f ≡ e → map entry_of fs ≡ take i pool → map entry_of (fs ++ f ∷ []) ≡ take (i + 1) pool

@@ -1,31 +1,15 @@
 -- What was said, and how the command ended.
-use Rattle.std.proofs.Common.{◌≡◌, ℕ, ◌+◌, ◌<◌, List, [], ◌∷◌, ◌++◌, map, append-nil, drop, drop_of_length-le, length, ◌≤◌, None, Some, Result, Ok, Err, inl, inr, refl, sym, ap, ◌∙◌, subst}
+use Rattle.std.proofs.Common.{◌≡◌, ℕ, ◌+◌, ◌<◌, List, [], ◌∷◌, ◌++◌, map, drop, drop_of_length-le, length, ◌≤◌, None, Some, Result, Ok, Err, inl, inr, refl, sym, ap, ◌∙◌, subst}
 use Rattle.std.specs.Prelude.{Option, slice_get}
-use Rattle.std.specs.Io.KnownBytes.{Appends}
 use Rattle.std.proofs.lemmas.List.{drop_more}
 use Rattle.std.proofs.lemmas.Option.{get_or_from_slice_get, slice_get_within}
-use Rattle.xt_io.specs.Outside.{AppendsPrefix}
 use Rattle.type_registry.specs.Held.{Held}
 use Rattle.tool_output.specs.declared.halt.Halt.{Halt}
-use Rattle.tool_output.specs.declared.halt.Halt.TheVariants as halts
 use Rattle.tool_output.specs.declared.ending.Ending.{Ending}
-use Rattle.tool_output.specs.declared.ending.Ending.TheVariants.{Done}
-use Rattle.tool_output.specs.Outputs.{Output, after_pieces, finished}
-use Rattle.tool_output.specs.Runs.{Ends, Leads}
-use Rattle.tool_output.proofs.Written.{piece_is_cut, stops_here}
-use Rattle.tool_runs.specs.Commands.{only}
+use Rattle.tool_output.specs.Outputs.{Output, after_pieces}
+use Rattle.tool_output.specs.Runs.{Leads}
 use Rattle.tool_nets.specs.Nets.{EndsIn}
 use Rattle.tool_serving.specs.Lines.{held_line}
-
-pub only_is_whole : (piece : List ℕ) (old new : Option (List ℕ)) → Appends old new piece → Ends (only (piece ∷ [])) (Ok Done) old new
-only_is_whole piece old new p = record { ending = refl; text = subst (Appends old new) (sym (append-nil piece)) p }
-
-pub only_is_cut : (piece : List ℕ) (e : Halt) (old new : Option (List ℕ)) → AppendsPrefix old new piece → (e ≡ halts.ReadFault → ⊥) → Ends (only (piece ∷ [])) (Err e) old new
-only_is_cut piece e old new p no_read = piece_is_cut finished piece e old new p no_read
-
--- memory was wanting for it
-pub is_wanted : (output : Output) (a : Option (List ℕ)) → Ends output (Err halts.OutOfMemory) a a
-is_wanted output a = stops_here (Some output) halts.OutOfMemory a
 
 -- what is allowed there is allowed here
 pub ends_more : (A B : Output → Type 0) (result : Result Ending Halt) (old new : Option (List ℕ)) → ((o : Output) → A o → B o) → EndsIn A result old new → EndsIn B result old new

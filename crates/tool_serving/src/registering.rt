@@ -5,7 +5,7 @@ ghost use Rattle.type_object.specs.Pools.{IsObject};
 ghost use Rattle.tool_serving.specs.Registering.{Holds, IsOfEntry, IsUnregistered, IsWhy};
 
 use std::alloc::Global;
-use type_object::{Pool, PoolEntry};
+use type_object::Pool;
 use type_registry::{Finding, Kept, Md5Naming, Pass, RegisterFault, Registry, Trail};
 use type_trees::HashId;
 use xt_lists::Row;
@@ -34,23 +34,21 @@ fn register_one<'r>(
     alloc: Global,
     registry: &'r Registry<Md5Naming>,
     pass: &mut Pass<'r, Md5Naming>,
-    entry: PoolEntry<'_>,
+    id: HashId,
+    octets: &[u8],
 ) -> Result<Finding<'r, Md5Naming>, Unregistered<'r>>
     requires pass { pass.old.registry ≡ registry.now }
-    requires own { entry.id ≡ named entry.octets.now }
-    requires object { IsObject entry.octets.now }
-    ensures found { IfOk result (IsOfEntry registry.now (entry.id, entry.octets.now)) }
-    ensures refused { IfErr result (IsWhy (entry.id, entry.octets.now)) }
+    requires own { id ≡ named octets.now }
+    requires object { IsObject octets.now }
+    ensures found { IfOk result (IsOfEntry registry.now (id, octets.now)) }
+    ensures refused { IfErr result (IsWhy (id, octets.now)) }
     ensures pass { pass.new.registry ≡ registry.now }
 {
-    match registry.register(alloc, pass, entry.octets) {
+    match registry.register(alloc, pass, octets) {
         Ok(Kept::Added(finding)) => Ok(finding),
         Ok(Kept::Known(finding)) => Ok(finding),
         Err(RegisterFault::Clash(finding)) => Err(Unregistered::Clash(finding)),
-        Err(RegisterFault::Full(trail)) => Err(Unregistered::Full {
-            id: entry.id,
-            trail,
-        }),
+        Err(RegisterFault::Full(trail)) => Err(Unregistered::Full { id, trail }),
         Err(RegisterFault::NotAnObject(_)) => unreachable!(),
         Err(RegisterFault::OutOfMemory) => Err(Unregistered::OutOfMemory),
     }
@@ -68,12 +66,14 @@ pub(crate) fn register_all<'r>(
     let mut pass = registry.pass(alloc);
     let mut findings = Row::new(alloc);
     for index in 0..pool.len() {
-        let finding = match register_one(alloc, registry, &mut pass, pool.at(index)) {
+        let entry = pool.at(index);
+        let finding = match register_one(alloc, registry, &mut pass, entry.id, entry.octets) {
             Ok(finding) => finding,
             Err(why) => return Err(why),
         };
-        if findings.push(finding).is_err() {
-            return Err(Unregistered::OutOfMemory);
+        match findings.push(finding) {
+            Ok(()) => {}
+            Err(_) => return Err(Unregistered::OutOfMemory),
         }
     }
     Ok(Known { registry, findings })
