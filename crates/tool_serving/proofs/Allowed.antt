@@ -11,6 +11,7 @@ use Rattle.xt_io.specs.Links.{Held, IsToldAs}
 use Rattle.type_trees.specs.declared.types.HashId.{HashId}
 use Rattle.type_object.specs.Pools.{Texts}
 use Rattle.type_registry.specs.Held as cells
+use Rattle.type_registry.specs.Found.{Found}
 use Rattle.type_registry.specs.Passed.{Occupied, IsFull}
 use Rattle.tool_output.specs.declared.ending.Ending.{Ending}
 use Rattle.tool_output.specs.declared.ending.Style.TheVariants.{Lines}
@@ -22,7 +23,9 @@ use Rattle.tool_output.specs.Runs.{ComesTold, Ends, refusal}
 use Rattle.tool_runs.specs.Stopping.{Concludes}
 use Rattle.tool_nets.specs.Nets.{Net, Fails, EndsIn}
 use Rattle.tool_nets.specs.Opened.{AllowedOf, Behind, StopsFront, opened}
+use Rattle.tool_serving.specs.declared.registering.Unregistered.TheVariants.{Clash, Full}
 use Rattle.tool_serving.specs.Lines.{clash_output, full_output}
+use Rattle.tool_serving.specs.Registering.{IsUnregistered}
 use Rattle.tool_serving.specs.Seats.{IsSaid}
 use Rattle.tool_serving.specs.Serving.{ClashSaid, FullSaid, ServeSaid, DoorsHeld, ServeAllows}
 
@@ -38,27 +41,33 @@ module _ (name : List ℕ → List ℕ) (to : List ℕ) (workers turns : ℕ) (p
   served_allowed (Err Failed) o count address held fault said = inr (inr (inl (record { rose = fault refl; line = said })))
   served_allowed (Err OutOfMemory) o count address held fault said = absurd said
 
-  -- a clash
-  pub clash_allowed : (entry : HashId × List ℕ) (id : HashId) (others : List ℕ) → Contains pool entry → id ≡ entry.0 → (others ≡ entry.1 → ⊥) → cells.IsNamed name (cells.held id others) → ServeAllows name to workers turns pool net (clash_output id others)
-  clash_allowed entry id others is_in is differ named = inl (record {
-    id = id;
-    octets = entry.1;
-    others = others;
-    in_pool = subst (λ (x : HashId). Contains pool (x, entry.1)) (sym is) is_in;
-    named = named;
-    differ = differ;
-    said = refl;
-  })
+  -- other octets stand under an identifier
+  pub clash_allowed : (f : Found) → IsUnregistered pool (Clash f) → cells.IsNamed name (cells.held f.id f.octets) → ServeAllows name to workers turns pool net (clash_output f.id f.octets)
+  clash_allowed f was named =
+      let (entry, is_in, why) = was in
+      let (is, differ) = why in
+      inl (record {
+        id = f.id;
+        octets = entry.1;
+        others = f.octets;
+        in_pool = subst (λ (x : HashId). Contains pool (x, entry.1)) (sym is) is_in;
+        named = named;
+        differ = differ;
+        said = refl;
+      })
 
-  -- full cells
-  pub full_allowed : (entry : HashId × List ℕ) (id : HashId) (occupied : Occupied) → Contains pool entry → id ≡ entry.0 → occupied.id ≡ entry.0 → IsFull name occupied → ServeAllows name to workers turns pool net (full_output id occupied.held)
-  full_allowed entry id occupied is_in is own full = inr (inl (record {
-    octets = entry.1;
-    occupied = occupied;
-    in_pool = subst (λ (x : HashId). Contains pool (x, entry.1)) (sym own) is_in;
-    full = full;
-    said = ap (λ (x : HashId). full_output x occupied.held) (is ∙ sym own);
-  }))
+  -- all cells hold others
+  pub full_allowed : (id : HashId) (trail : Occupied) → IsUnregistered pool (Full id trail) → IsFull name trail → ServeAllows name to workers turns pool net (full_output id trail.held)
+  full_allowed id trail was full =
+      let (entry, is_in, why) = was in
+      let (is, own) = why in
+      inr (inl (record {
+        octets = entry.1;
+        occupied = trail;
+        in_pool = subst (λ (x : HashId). Contains pool (x, entry.1)) (sym own) is_in;
+        full = full;
+        said = ap (λ (x : HashId). full_output x trail.held) (is ∙ sym own);
+      }))
 
 -- ---- a bundle
 

@@ -1,7 +1,9 @@
 //! Serving at the doors of a net.
 ghost use Rattle.std.specs.Prelude.{◌≡◌, ◌≤◌, ◌*◌, true, length, map, reverse, IfOk, OnOk, IsErrOf};
 ghost use Rattle.std.specs.List.{All};
-ghost use Rattle.xt_io.specs.Links.{HasNetCause, IsNewDoor, IsToldAs, any_fault};
+ghost use Rattle.xt_io.specs.declared.NetFault.TheVariants.{Failed};
+ghost use Rattle.xt_io.specs.Outside.{Rose};
+ghost use Rattle.xt_io.specs.Links.{IsNewDoor, IsToldAs, any_fault};
 ghost use Rattle.type_object.specs.Names.{hash_of};
 ghost use Rattle.lookup_workers.specs.declared.faults.ServeFault.TheVariants.{DoorFault};
 ghost use Rattle.tool_serving.specs.Registering.{AreIn, entry_of};
@@ -119,7 +121,7 @@ pub(crate) fn serve_net<R: Threads + Sync, N: Net>(
     ensures count { IfOk result (λ n. n ≡ workers * turns) }
     ensures address { OnOk result (IsToldAs (N.address net.new) to.now) }
     ensures held { OnOk result (DoorsHeld hash_of (map entry_of known.now.findings) workers turns (N.held net.new)) }
-    ensures cause { HasNetCause (N.faults net.old) (N.faults net.new) result }
+    ensures fault { IsErrOf result Failed → Rose (N.faults net.old) (N.faults net.new) }
 {
     let doors = match net.doors(alloc, to, workers) {
         Ok(doors) => doors,

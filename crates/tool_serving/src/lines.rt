@@ -1,5 +1,5 @@
 //! What the command says.
-ghost use Rattle.std.specs.Prelude.{◌≡◌, Some, IfOk, map};
+ghost use Rattle.std.specs.Prelude.{◌≡◌, [], ◌∷◌, Some, IfOk, map};
 ghost use Rattle.type_object.specs.Names.{hash_of};
 ghost use Rattle.type_registry.specs.Held.{IsNamed, held};
 ghost use Rattle.type_registry.specs.Passed.{IsFull};
