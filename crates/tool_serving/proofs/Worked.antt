@@ -15,7 +15,8 @@ use Rattle.lookup_workers.specs.declared.faults.ServeFault.TheVariants.{DoorFaul
 use Rattle.lookup_workers.specs.Outcomes.{Answer, both_of, AllWorked, AnyTwo}
 use Rattle.lookup_workers.specs.Served.{IsServed, SeatServed}
 use Rattle.tool_serving.specs.Serving.{DoorHeld, DoorsHeld}
-use Rattle.tool_serving.specs.Seats.{AreHeld, IsReady, Knows, TellsHeld}
+use Rattle.tool_serving.specs.Seats.{AreHeld, Knows, TellsHeld}
+use Rattle.tool_serving.proofs.Seated.{Ready}
 use Rattle.tool_serving.proofs.Reversed.{all_reverse, all_behind_map, any_map, any_reverse}
 
 -- ---- one door
@@ -74,30 +75,24 @@ any_above faults (x ∷ xs) (y ∷ ys) q (inr others) =
     by false b e = e
 
 module _ {D P : Type 0} (name : List ℕ → List ℕ) (registry : List ℕ) (pool : Texts) (turns : ℕ) (held : D → Option (List Held)) (faults : D → ℕ) (out : D → Bool) (door : P → D) (pass : P → PassView) where
-  abbrev Ready : P → Type 0
-  Ready seat = IsReady name registry pool (pass seat) (held (door seat)) (out (door seat)) (faults (door seat))
+  abbrev Seat : P → Type 0
+  Seat = Ready name registry pool held faults out door pass
 
   abbrev Left : P → P → Answer → Type 0
   Left = SeatServed name held faults out door pass turns
 
-  pub none_out : (seats : List P) → All Ready seats → All (λ seat. out (door seat) ≡ false) seats
-  none_out seats ready = All-weaker Ready (λ seat. out (door seat) ≡ false) (λ seat is. is.new_door.none_out) seats ready
-
-  pub of_registry : (seats : List P) → All Ready seats → All (λ seat. (pass seat).registry ≡ registry) seats
-  of_registry seats ready = All-weaker Ready (λ seat. (pass seat).registry ≡ registry) (λ seat is. is.knows.registry_is) seats ready
-
   -- the doors of the seats, backwards
-  pub doors_held : (workers : ℕ) (first last : List P) (doors : List D) (a : Answer) → length first ≡ workers → All Ready first → AllWorked Left first last a → a ≡ Ok tt → map door last ≡ reverse doors → AreHeld name pool workers turns (map held doors)
+  pub doors_held : (workers : ℕ) (first last : List P) (doors : List D) (a : Answer) → length first ≡ workers → All Seat first → AllWorked Left first last a → a ≡ Ok tt → map door last ≡ reverse doors → AreHeld name pool workers turns (map held doors)
   doors_held workers first last doors a many ready s well back =
       let Tells : D → Type 0 = λ d. TellsHeld name pool turns (held d) in
-      let worked = worked_well Left Ready (λ seat. Tells (door seat)) first last a (λ x y is left. tells_held name registry pool turns (pass x) (pass y) (held (door x)) (held (door y)) is.knows is.new_door.held_none left.served) s well ready in
+      let worked = worked_well Left Seat (λ seat. Tells (door seat)) first last a (λ x y is left. tells_held name registry pool turns (pass x) (pass y) (held (door x)) (held (door y)) is.knows is.new_door.held_none left.served) s well ready in
       let each : All Tells (reverse doors) = subst (All Tells) back (All-map Tells door last worked.1) in
       let count : length doors ≡ workers = sym (length-reverse doors) ∙ ap length (sym back) ∙ length-map last door ∙ worked.0 ∙ many in
       (length-map doors held ∙ count, All-map (TellsHeld name pool turns) held doors (all_reverse Tells doors each))
 
-  pub doors_failed : (first last : List P) (doors : List D) → All Ready first → AnyTwo (λ old new. Rose (faults (door old)) (faults (door new))) first last → map door last ≡ reverse doors → any_fault (map faults doors) ≡ true
+  pub doors_failed : (first last : List P) (doors : List D) → All Seat first → AnyTwo (λ old new. Rose (faults (door old)) (faults (door new))) first last → map door last ≡ reverse doors → any_fault (map faults doors) ≡ true
   doors_failed first last doors ready rose back =
-      let none = All-weaker Ready (λ seat. faults (door seat) ≡ 0) (λ seat is. is.new_door.good) first ready in
+      let none = All-weaker Seat (λ seat. faults (door seat) ≡ 0) (λ seat is. is.new_door.good) first ready in
       let above : D → Bool = λ d. nat_lt 0 (faults d) in
       any_map (λ n. nat_lt 0 n) faults doors ∙ sym (any_reverse above doors) ∙ ap (list_any above) (sym back) ∙ any_map above door last ∙ any_above (λ seat. faults (door seat)) first last none rose
 

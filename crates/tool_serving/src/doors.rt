@@ -74,7 +74,7 @@ fn doors_of<D: Door>(
     alloc: Global,
     seats: Row<Seat<'_, Md5Naming, D>>,
 ) -> Result<Row<D>, OutOfMemory>
-    ensures { IfOk result (λ doors. map (λ seat. seat.door) seats ≡ reverse doors) }
+    ensures { IfOk result (λ doors. map (λ seat. seat.door) seats.entry ≡ reverse doors) }
 {
     let mut seats = seats;
     let mut doors = Row::new(alloc);
