@@ -1,18 +1,18 @@
 -- What the doors of workers held, and that one of them failed.
 use Rattle.std.proofs.Common.{◌≡◌, ℕ, ◌+◌, ◌<◌, ◌≤◌, suc, List, [], ◌∷◌, ◌++◌, ◌||◌, Bool, true, false, nat_lt, map, reverse, length, None, Some, Ok, Err, inl, inr, refl, sym, ap, ◌∙◌, subst, arith}
-use Rattle.std.specs.Prelude.{All, Option}
+use Rattle.std.specs.Prelude.{All, Option, Result, OnOk}
 use Rattle.std.specs.List.{list_any}
 use Rattle.std.proofs.lemmas.Bool.{lt-ltb}
 use Rattle.std.proofs.lemmas.List.{length-map, length-reverse}
 use Rattle.std.proofs.lemmas.List.Elements.{All-nil, All-cons, All-head, All-tail, All-map, All-weaker}
-use Rattle.xt_io.specs.Outside.{Rose, RisesWhere}
+use Rattle.xt_io.specs.Outside.{Rose}
 use Rattle.xt_io.specs.Links.{Held, IsToldEmpty, IsHeldBy, any_fault}
 use Rattle.type_object.specs.Pools.{Texts}
 use Rattle.type_registry.specs.Passed.{PassView}
 use Rattle.session_chains.specs.Chains.{Chain}
 use Rattle.lookup_workers.specs.declared.faults.ServeFault.{ServeFault}
 use Rattle.lookup_workers.specs.declared.faults.ServeFault.TheVariants.{DoorFault, OutOfMemory}
-use Rattle.lookup_workers.specs.Outcomes.{Answer, both_of, AllWorked, AnyTwo}
+use Rattle.lookup_workers.specs.Outcomes.{Answer, both_of, AllWorked, AnyTwo, without_count}
 use Rattle.lookup_workers.specs.Served.{IsServed, SeatServed}
 use Rattle.tool_serving.specs.Serving.{DoorHeld, DoorsHeld}
 use Rattle.tool_serving.specs.Seats.{AreHeld, Knows, TellsHeld}
@@ -82,7 +82,7 @@ module _ {D P : Type 0} (name : List ℕ → List ℕ) (registry : List ℕ) (po
   Left = SeatServed name held faults out door pass turns
 
   -- the doors of the seats, backwards
-  pub doors_held : (workers : ℕ) (first last : List P) (doors : List D) (a : Answer) → length first ≡ workers → All Seat first → AllWorked Left first last a → a ≡ Ok tt → map door last ≡ reverse doors → AreHeld name pool workers turns (map held doors)
+  doors_held : (workers : ℕ) (first last : List P) (doors : List D) (a : Answer) → length first ≡ workers → All Seat first → AllWorked Left first last a → a ≡ Ok tt → map door last ≡ reverse doors → AreHeld name pool workers turns (map held doors)
   doors_held workers first last doors a many ready s well back =
       let Tells : D → Type 0 = λ d. TellsHeld name pool turns (held d) in
       let worked = worked_well Left Seat (λ seat. Tells (door seat)) first last a (λ x y is left. tells_held name registry pool turns (pass x) (pass y) (held (door x)) (held (door y)) is.knows is.new_door.held_none left.served) s well ready in
@@ -96,17 +96,24 @@ module _ {D P : Type 0} (name : List ℕ → List ℕ) (registry : List ℕ) (po
       let above : D → Bool = λ d. nat_lt 0 (faults d) in
       any_map (λ n. nat_lt 0 n) faults doors ∙ sym (any_reverse above doors) ∙ ap (list_any above) (sym back) ∙ any_map above door last ∙ any_above (λ seat. faults (door seat)) first last none rose
 
+  -- the same by what the workers answered together
+  pub held_if : (workers : ℕ) (first last : List P) (doors : List D) (served : Result ℕ ServeFault) → length first ≡ workers → All Seat first → AllWorked Left first last (without_count served) → map door last ≡ reverse doors → OnOk served (AreHeld name pool workers turns (map held doors))
+  held_if workers first last doors (Ok n) many ready s back = doors_held workers first last doors (Ok tt) many ready s refl back
+  held_if workers first last doors (Err fault) many ready s back = tt
+
 -- ---- the net
 
 -- where the net tells what its doors held
-pub net_held : (name : List ℕ → List ℕ) (pool : Texts) (workers turns : ℕ) (told : Option (List (List Held))) (doors : List (Option (List Held))) → IsHeldBy told doors → AreHeld name pool workers turns doors → DoorsHeld name pool workers turns told
+net_held : (name : List ℕ → List ℕ) (pool : Texts) (workers turns : ℕ) (told : Option (List (List Held))) (doors : List (Option (List Held))) → IsHeldBy told doors → AreHeld name pool workers turns doors → DoorsHeld name pool workers turns told
 net_held name pool workers turns None doors is are = tt
 net_held name pool workers turns (Some all) doors is are = (
-    sym (length-map all (λ (h : List Held). Some h)) ∙ ap length (sym is) ∙ are.0,
-    all_behind_map (TellsHeld name pool turns) (λ (h : List Held). Some h) all (subst (All (TellsHeld name pool turns)) is are.1),
+  sym (length-map all (λ (h : List Held). Some h)) ∙ ap length (sym is) ∙ are.0,
+  all_behind_map (TellsHeld name pool turns) (λ (h : List Held). Some h) all (subst (All (TellsHeld name pool turns)) is are.1),
 )
 
--- the net's count rose, at the latest where its doors were given back
-pub net_rose : (any : Bool) (before between now : ℕ) → before ≤ between → any ≡ true → RisesWhere any between now → Rose before now
-net_rose true before between now later is rose = omega (arith, later, rose)
-net_rose false before between now later is rose = absurd cc
+-- the same by what came of serving at so many doors
+pub net_held_if : (name : List ℕ → List ℕ) (pool : Texts) (workers turns many : ℕ) (served : Result ℕ ServeFault) (count : ℕ) (told : Option (List (List Held))) (doors : List (Option (List Held))) → served ≡ Ok count → many ≡ workers → OnOk served (AreHeld name pool many turns doors) → IsHeldBy told doors
+    → DoorsHeld name pool workers turns told
+net_held_if name pool workers turns many served count told doors well same are is =
+    let these : AreHeld name pool many turns doors = subst (λ (r : Result ℕ ServeFault). OnOk r (AreHeld name pool many turns doors)) well are in
+    net_held name pool workers turns told doors is (subst (λ (n : ℕ). AreHeld name pool n turns doors) same these)

@@ -80,12 +80,7 @@ pub(crate) fn say_clash<K: Sink>(
     }
 }
 
-fn say_cell<K: Sink>(
-    alloc: Global,
-    id: HashId,
-    octets: &[u8],
-    sink: &mut K,
-) -> Result<(), Stop>
+fn say_cell<K: Sink>(alloc: Global, id: HashId, octets: &[u8], sink: &mut K) -> Result<(), Stop>
     ensures steps { (rest : Output) → Steps Style.Lines (Some (after_pieces (spec.held_line (held id octets.now) ∷ []) rest)) (Some rest) result (K.taken sink.old) (K.taken sink.new) }
     ensures stops { StopsWriting (K.faults sink.old) (K.faults sink.new) result }
     ensures same { K.name sink.new ≡ K.name sink.old }
@@ -96,11 +91,7 @@ fn say_cell<K: Sink>(
     }
 }
 
-fn say_cells<K: Sink>(
-    alloc: Global,
-    trail: &Trail<'_, Md5Naming>,
-    sink: &mut K,
-) -> Result<(), Stop>
+fn say_cells<K: Sink>(alloc: Global, trail: &Trail<'_, Md5Naming>, sink: &mut K) -> Result<(), Stop>
     ensures full { IsFull hash_of trail.now }
     ensures steps { (rest : Output) → Steps Style.Lines (Some (after_pieces (map spec.held_line trail.now.held) rest)) (Some rest) result (K.taken sink.old) (K.taken sink.new) }
     ensures stops { StopsWriting (K.faults sink.old) (K.faults sink.new) result }

@@ -53,7 +53,16 @@ fn serve<R: Threads + Sync>(
     net: &mut MemNet,
 ) -> Result<Ending, Halt> {
     let mut input = SureSource::new(BUNDLE);
-    serve_at(rt, alloc, &Word::new(alloc), 1, turns, &mut input, sink, net)
+    serve_at(
+        rt,
+        alloc,
+        &Word::new(alloc),
+        1,
+        turns,
+        &mut input,
+        sink,
+        net,
+    )
 }
 
 // The door held one session, in which the object was found.

@@ -4,6 +4,7 @@ use Rattle.type_object.specs.Names.{hash_of}
 use Rattle.type_object.specs.Pools.{Texts}
 use Rattle.tool_nets.specs.Nets.{net_of}
 use Rattle.tool_serving.specs.Lines.{clash_output, full_output}
+use Rattle.tool_serving.specs.Registering.{IsUnregistered}
 use Rattle.tool_serving.specs.Seats.{IsSaid}
 use Rattle.tool_serving.specs.Serving.{DoorsHeld, ServeAllows}
 use Rattle.tool_serving.proofs.Allowed.{clash_allowed, full_allowed, served_allowed}
@@ -29,7 +30,8 @@ returns-in-Err-Clash-clause-output g c =
     let now = c.args.net.now in
     let net = net_of (g.N.Net.faults now) (g.N.Net.faults now) (g.N.Net.address now) (g.N.Net.heard now) (g.N.Net.held now) in
     let f = c.in-Err-Clash.finding in
-    inl (clash_output f.id f.octets, clash_allowed hash_of c.args.to.now c.args.workers c.args.turns c.args.pool.now net f c.in-Err-Clash.ensures.refused c.say_clash.ensures.named, c.say_clash.ensures.ends)
+    let was = subst (IsUnregistered c.args.pool.now) c.in-Err-Clash.field-0-is c.in-Err-Clash.ensures.refused in
+    inl (clash_output f.id f.octets, clash_allowed hash_of c.args.to.now c.args.workers c.args.turns c.args.pool.now net f was c.say_clash.ensures.named, c.say_clash.ensures.ends)
 
 pub returns-in-Err-Full-clause-output : goal.returns-in-Err-Full-clause-output
 returns-in-Err-Full-clause-output g c =
@@ -37,4 +39,5 @@ returns-in-Err-Full-clause-output g c =
     let net = net_of (g.N.Net.faults now) (g.N.Net.faults now) (g.N.Net.address now) (g.N.Net.heard now) (g.N.Net.held now) in
     let id = c.in-Err-Full.id in
     let trail = c.in-Err-Full.trail in
-    inl (full_output id trail.held, full_allowed hash_of c.args.to.now c.args.workers c.args.turns c.args.pool.now net id trail c.in-Err-Full.ensures.refused c.say_full.ensures.full, c.say_full.ensures.ends)
+    let was = subst (IsUnregistered c.args.pool.now) c.in-Err-Full.field-0-is c.in-Err-Full.ensures.refused in
+    inl (full_output id trail.held, full_allowed hash_of c.args.to.now c.args.workers c.args.turns c.args.pool.now net id trail was c.say_full.ensures.full, c.say_full.ensures.ends)
