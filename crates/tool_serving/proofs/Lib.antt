@@ -1,0 +1,6 @@
+mod Allowed
+mod Entered
+mod Reversed
+mod Seated
+mod Told
+mod Worked

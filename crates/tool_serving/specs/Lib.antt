@@ -1,2 +1,4 @@
 pub mod Lines
+pub mod Registering
+pub mod Seats
 pub mod Serving

@@ -14,16 +14,28 @@ abbrev pub types_refusal : List ℕ → Refusal
 types_refusal text = record { text = text; cause = causes.Types }
 
 -- other octets stand under an identifier
+abbrev pub clash_text : HashId → List ℕ → List ℕ
+clash_text id octets = codes "registry clash " ++ (id_text id ++ 32 ∷ encode_lower octets)
+
 abbrev pub clash_output : HashId → List ℕ → Output
-clash_output id octets = refused Lines (types_refusal (codes "registry clash " ++ (id_text id ++ 32 ∷ encode_lower octets)))
+clash_output id octets = refused Lines (types_refusal (clash_text id octets))
 
 abbrev pub held_line : Held → List ℕ
 held_line held = codes "held " ++ (id_text held.id ++ 32 ∷ (encode_lower held.octets ++ 10 ∷ []))
 
+abbrev pub full_text : HashId → List ℕ
+full_text id = codes "registry full " ++ id_text id
+
 -- all probed cells of an identifier hold others: a line for each, and the refusal
 abbrev pub full_output : HashId → List Held → Output
-full_output id others = after_pieces (map held_line others) (refused Lines (types_refusal (codes "registry full " ++ id_text id)))
+full_output id others = after_pieces (map held_line others) (refused Lines (types_refusal (full_text id)))
 
--- all turns were served
+-- all turns were served: how many sessions were held
+abbrev pub sessions_line : ℕ → List ℕ
+sessions_line count = codes "sessions " ++ (decimal count ++ 10 ∷ [])
+
+abbrev pub sessions_of : ℕ → Output
+sessions_of count = only (sessions_line count ∷ [])
+
 abbrev pub sessions_output : ℕ → ℕ → Output
-sessions_output workers turns = only ((codes "sessions " ++ (decimal (workers * turns) ++ 10 ∷ [])) ∷ [])
+sessions_output workers turns = sessions_of (workers * turns)

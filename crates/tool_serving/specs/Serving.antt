@@ -17,7 +17,7 @@ pub record ClashSaid (name : List ℕ → List ℕ) (pool : Texts) (output : Out
   pub id : HashId
   pub octets : List ℕ
   pub others : List ℕ
-  pub in_pool : Contains (id, octets) pool
+  pub in_pool : Contains pool (id, octets)
   pub named : cells.IsNamed name (cells.held id others)
   pub differ : others ≢ octets
   pub said : output ≡ clash_output id others
@@ -26,7 +26,7 @@ pub record ClashSaid (name : List ℕ → List ℕ) (pool : Texts) (output : Out
 pub record FullSaid (name : List ℕ → List ℕ) (pool : Texts) (output : Output) : Type 0 where
   pub octets : List ℕ
   pub occupied : Occupied
-  pub in_pool : Contains (occupied.id, octets) pool
+  pub in_pool : Contains pool (occupied.id, octets)
   pub full : IsFull name occupied
   pub said : output ≡ full_output occupied.id occupied.held
 

@@ -1,6 +1,8 @@
 //! The command that serves objects to peers: a registry of the objects, and workers with a door and a pass each.
 #![tactic(auto)]
 
+mod doors;
+mod lines;
 mod registering;
 mod serving;
 #[cfg(test)]

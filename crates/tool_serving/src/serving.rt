@@ -7,10 +7,16 @@ ghost use Rattle.tool_nets.specs.Nets.{EndsIn, net_of};
 ghost use Rattle.tool_nets.specs.Opened.{Behind};
 ghost use Rattle.tool_serving.specs.Serving.{ServeAllows};
 
+use crate::doors::serve_net;
+use crate::lines::{say_clash, say_full, say_served};
+use crate::registering::{Unregistered, register_all};
 use std::alloc::Global;
 use std::thread::Threads;
-use tool_output::{Ending, Halt};
+use tool_nets::open_pool;
+use tool_output::{Ending, Halt, Style};
+use tool_runs::stopped;
 use type_object::Pool;
+use type_registry::{Md5Naming, Registry};
 use xt_io::{Net, Sink, Source};
 use xt_lists::Word;
 
@@ -34,7 +40,16 @@ pub fn serve_pool<R: Threads + Sync, K: Sink, N: Net>(
     ensures halts { HaltsWriting (K.faults sink.old) (K.faults sink.new) result }
     ensures same { K.name sink.new ≡ K.name sink.old }
 {
-    todo!()
+    let registry: Registry<Md5Naming> = Registry::new(alloc);
+    match register_all(alloc, &registry, pool) {
+        Ok(known) => {
+            let served = serve_net(rt, alloc, &known, to, workers, turns, net);
+            say_served(alloc, served, sink)
+        }
+        Err(Unregistered::Clash(finding)) => say_clash(alloc, &finding, sink),
+        Err(Unregistered::Full { id, trail }) => say_full(alloc, id, &trail, sink),
+        Err(Unregistered::OutOfMemory) => Err(Halt::OutOfMemory),
+    }
 }
 
 /// Serves the objects of the types of a bundle without a body.
@@ -56,5 +71,8 @@ pub fn serve_at<R: Threads + Sync, S: Source, K: Sink, N: Net>(
     ensures halts { Halts (S.faults input.old) (S.faults input.new) (K.faults sink.old) (K.faults sink.new) result }
     ensures same { K.name sink.new ≡ K.name sink.old }
 {
-    todo!()
+    match open_pool(alloc, input) {
+        Ok(pool) => serve_pool(rt, alloc, to, workers, turns, &pool, sink, net),
+        Err(stop) => stopped(alloc, Style::Lines, stop, sink),
+    }
 }

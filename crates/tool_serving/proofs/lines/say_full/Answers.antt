@@ -1,0 +1,17 @@
+use Rattle.std.proofs.Common.{Some, map}
+use Rattle.tool_output.specs.declared.ending.Style.TheVariants.{Lines}
+use Rattle.tool_output.specs.Outputs.{after_pieces, refused}
+use Rattle.tool_output.proofs.Written.{writes_on}
+use Rattle.tool_runs.proofs.Joined.{concluded}
+use Rattle.tool_serving.specs.Lines.{full_output, full_text, held_line, types_refusal}
+use Rattle.tool_serving.proofs.lines.say_full.Goals as goal
+
+pub returns-in-Ok-clause-ends : goal.returns-in-Ok-clause-ends
+returns-in-Ok-clause-ends g c =
+    let end = refused Lines (types_refusal (full_text c.args.id)) in
+    writes_on (Some (full_output c.args.id c.args.trail.now.held)) (Some end) c.say_full_end.result (g.K.Sink.taken c.args.sink.now) (g.K.Sink.taken c.say_cells.new.sink) (g.K.Sink.taken c.say_full_end.new.sink) (c.in-Ok.ensures.steps end) c.say_full_end.ensures.ends
+
+pub returns-in-Err-clause-ends : goal.returns-in-Err-clause-ends
+returns-in-Err-clause-ends g c =
+    let end = refused Lines (types_refusal (full_text c.args.id)) in
+    concluded (Unit {0}) Lines (Some (full_output c.args.id c.args.trail.now.held)) (Some end) c.in-Err.stop c.stopped.result (g.K.Sink.taken c.args.sink.now) (g.K.Sink.taken c.say_cells.new.sink) (g.K.Sink.taken c.stopped.new.sink) (c.in-Err.ensures.steps end) c.stopped.ensures.concludes
