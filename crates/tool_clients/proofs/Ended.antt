@@ -79,7 +79,7 @@ refusal_told (Some said) r p = p
 -- what is allowed of the pool of the bundle was written
 pub behind_pool : (left : Option (List ℕ)) (Allowed : Texts → Output → Type 0) (pool : Texts) (result : Result Ending Halt) (old new : Option (List ℕ)) → ComesTold {X = Texts} (told_by left) (λ p. p) (Ok pool) → EndsIn (Allowed pool) result old new → EndsIn (Behind left Allowed) result old new
 behind_pool left Allowed pool result old new p q = elim q [
-    inl came ↦ inl (came.0, (Ok pool, pool_told (told_by left) pool p, came.1), came.2)
+  | inl came ↦ inl (came.0, (Ok pool, pool_told (told_by left) pool p, came.1), came.2)
   | inr before ↦ inr before
 ]
 

@@ -4,7 +4,6 @@
 mod fetching;
 mod mirroring;
 mod saying;
-
 #[cfg(test)]
 mod tests;
 

@@ -11,10 +11,7 @@ use xt_io::Sink;
 use xt_lists::{OutOfMemory, Text};
 
 /// Writes a piece.
-pub(crate) fn say_piece<K: Sink>(
-    piece: Result<Text, OutOfMemory>,
-    sink: &mut K,
-) -> Result<(), Halt>
+pub(crate) fn say_piece<K: Sink>(piece: Result<Text, OutOfMemory>, sink: &mut K) -> Result<(), Halt>
     ensures says { (said : List ℕ) → IfOk piece (λ text. text ≡ said) → SaysPiece said result (K.taken sink.old) (K.taken sink.new) }
     ensures halts { HaltsWriting (K.faults sink.old) (K.faults sink.new) result }
     ensures same { K.name sink.new ≡ K.name sink.old }

@@ -26,8 +26,7 @@ const FOUND: &[u8] =
 const NOTHING: &[u8] = b"\x00\x00\x00\x0d\x01\xd3\x52\x82\x01\x01\x00\x00\x00\x00\x00\x00\x00";
 
 // The Note that it makes.
-const NOT_SERVED: &[u8] =
-    b"\x05\x00\x00\x00\x2ffetch not-served f166f0c72600ad68106416fe70f85e";
+const NOT_SERVED: &[u8] = b"\x05\x00\x00\x00\x2ffetch not-served f166f0c72600ad68106416fe70f85e";
 
 // The Note of a net that failed.
 const NET_FAULT: &[u8] = b"\x05\x00\x00\x00\x09net-fault";
@@ -157,8 +156,7 @@ fn pushes(alloc: Global, mut net: MemNet, objects: &Row<Fetched>, text: &[u8]) -
         return false;
     };
     let mut sink = MemSink::new(alloc, 100, &[]);
-    let came =
-        mirror_objects::<Alike, MemSink, MemNet>(alloc, &to, objects, &mut sink, &mut net);
+    let came = mirror_objects::<Alike, MemSink, MemNet>(alloc, &to, objects, &mut sink, &mut net);
     came == Ok(Ending::Done) && sink.octets() == text
 }
 

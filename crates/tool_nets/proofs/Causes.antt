@@ -16,9 +16,10 @@ use Rattle.tool_output.specs.declared.ending.Cause.TheVariants as causes
 use Rattle.tool_output.specs.declared.stop.Stop.{Stop}
 use Rattle.tool_output.specs.declared.stop.Stop.TheVariants as stops
 use Rattle.tool_output.specs.Outputs.{Refusal, ◌>>=◌}
-use Rattle.tool_output.specs.Runs.{Comes, StopsBundle, refusal}
+use Rattle.tool_output.specs.Runs.{StopsBundle, refusal}
 use Rattle.tool_types.specs.Types.{Declaration, Declared, declare, declared_as, declared_by, object_added, pool_refusal, text_parsed, types, with_all, with_objects}
 use Rattle.tool_nets.specs.Opened.{StopsFront}
+use Rattle.tool_nets.proofs.Behind.{Stops}
 
 -- a refusal, if it is one, is a fault of the types
 abbrev RefusesTypes : {A : Type 0} → Result A Refusal → Type 0
@@ -67,10 +68,10 @@ declare_cause k pool (item ∷ items) =
     let behind : Declared × Texts → Result (List Declared × Texts) Refusal = λ d. declare (k + 1) d.1 items >>= λ ds. Ok (d.0 ∷ ds.0, ds.1) in
     in_turn (declared_by k pool item) behind (kind_cause item.kind k pool item.payload) (λ d. in_turn (declare (k + 1) d.1 items) (λ ds. Ok (d.0 ∷ ds.0, ds.1)) (declare_cause (k + 1) d.1 items) (λ ds. tt))
 
-pub types_stop : {X : Type 0} (items : List Item) (view : X → List Declared × Texts) (stop : Stop) → Comes (declare 0 [] items) view (Err stop) → StopsFront stop
-types_stop items view (stops.Refused r) p = inr (subst RefusesTypes p (declare_cause 0 [] items))
-types_stop items view (stops.Halted halt) p = tt
+pub types_cause : (items : List Item) (stop : Stop) → Stops (declare 0 [] items) stop → StopsFront stop
+types_cause items (stops.Refused r) p = inr (subst RefusesTypes p (declare_cause 0 [] items))
+types_cause items (stops.Halted halt) p = tt
 
-pub bundle_stop : (stop : Stop) → StopsBundle stop → StopsFront stop
-bundle_stop (stops.Refused r) p = inl p
-bundle_stop (stops.Halted halt) p = tt
+pub bundle_cause : (stop : Stop) → StopsBundle stop → StopsFront stop
+bundle_cause (stops.Refused r) p = inl p
+bundle_cause (stops.Halted halt) p = tt

@@ -1,5 +1,5 @@
 -- What a command over a net reads first: a bundle without a body, of whose types it takes the objects (own).
-use Rattle.std.specs.Prelude.{◌≡◌, List, ℕ, ◌⊎◌, Option, Result, Ok, Err}
+use Rattle.std.specs.Prelude.{◌≡◌, List, [], ℕ, ◌⊎◌, Option, Result, Ok, Err}
 use Rattle.std.specs.Option.{option_map}
 use Rattle.xt_io.specs.Bundles.{Bundle, bundle}
 use Rattle.xt_io.specs.Links.{IsToldAs}

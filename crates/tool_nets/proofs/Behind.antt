@@ -24,6 +24,10 @@ Opens first result = ComesTold {X = Texts} (option_map opened first) (λ pool. p
 abbrev pub Closes : Option Bundle → Result (Unit {0}) Stop → Type 0
 Closes body result = ComesTold {X = Unit {0}} (option_map closed body) (λ u. u) result
 
+-- the stop that the types come to
+abbrev pub Stops : Result (List Declared × Texts) Refusal → Stop → Type 0
+Stops said stop = Comes {X = List Declared × Texts} said (λ types. types) (Err stop)
+
 -- the front is refused
 pub front_stops : (first : Option Bundle) (stop : Stop) (reader : Reading) → FrontIs first (Err stop) reader → Opens first (Err stop)
 front_stops None stop reader p = tt
@@ -50,21 +54,21 @@ pub rest_stops : (first : Option Bundle) (front : Read) (reader : Reading) (stop
 rest_stops None front reader stop p q = tt
 rest_stops (Some before) front reader stop p q = rest_refused before front.records (coming front.next reader) stop p q
 
-types_declared : {X : Type 0} (before : Bundle) (records : List Item) (body : Option Bundle) (view : X → List Declared × Texts) (x : X) → GivesFront before records body → Closes body (Ok tt) → Comes (declare 0 [] records) view (Ok x) → Opens (Some before) (Ok (view x).1)
-types_declared before records None view x p q d = absurd p
-types_declared before records (Some body) view x p q d = closing before body records (Ok tt) p q ∙ ap (λ (r : Result (List Declared × Texts) Refusal). r >>= λ types. Ok types.1) d
+types_declared : (before : Bundle) (records : List Item) (body : Option Bundle) (types : List Declared × Texts) → GivesFront before records body → Closes body (Ok tt) → declare 0 [] records ≡ Ok types → Opens (Some before) (Ok types.1)
+types_declared before records None types p q d = absurd p
+types_declared before records (Some body) types p q d = closing before body records (Ok tt) p q ∙ ap (λ (r : Result (List Declared × Texts) Refusal). r >>= λ found. Ok found.1) d
 
 -- the types are there
-pub types_go : {X : Type 0} (first : Option Bundle) (front : Read) (reader : Reading) (view : X → List Declared × Texts) (x : X) → FrontIs first (Ok front) reader → Closes (coming front.next reader) (Ok tt) → Comes (declare 0 [] front.records) view (Ok x) → Opens first (Ok (view x).1)
-types_go None front reader view x p q d = tt
-types_go (Some before) front reader view x p q d = types_declared before front.records (coming front.next reader) view x p q d
+pub types_go : (first : Option Bundle) (front : Read) (reader : Reading) (types : List Declared × Texts) → FrontIs first (Ok front) reader → Closes (coming front.next reader) (Ok tt) → declare 0 [] front.records ≡ Ok types → Opens first (Ok types.1)
+types_go None front reader types p q d = tt
+types_go (Some before) front reader types p q d = types_declared before front.records (coming front.next reader) types p q d
 
-types_refused : {X : Type 0} (before : Bundle) (records : List Item) (body : Option Bundle) (view : X → List Declared × Texts) (stop : Stop) → GivesFront before records body → Closes body (Ok tt) → Comes (declare 0 [] records) view (Err stop) → Opens (Some before) (Err stop)
-types_refused before records None view stop p q d = absurd p
-types_refused before records (Some body) view (stops.Refused r) p q d = closing before body records (Ok tt) p q ∙ ap (λ (r : Result (List Declared × Texts) Refusal). r >>= λ types. Ok types.1) d
-types_refused before records (Some body) view (stops.Halted halt) p q d = tt
+types_refused : (before : Bundle) (records : List Item) (body : Option Bundle) (stop : Stop) → GivesFront before records body → Closes body (Ok tt) → Stops (declare 0 [] records) stop → Opens (Some before) (Err stop)
+types_refused before records None stop p q d = absurd p
+types_refused before records (Some body) (stops.Refused r) p q d = closing before body records (Ok tt) p q ∙ ap (λ (found : Result (List Declared × Texts) Refusal). found >>= λ types. Ok types.1) d
+types_refused before records (Some body) (stops.Halted halt) p q d = tt
 
 -- the types are refused
-pub types_stop : {X : Type 0} (first : Option Bundle) (front : Read) (reader : Reading) (view : X → List Declared × Texts) (stop : Stop) → FrontIs first (Ok front) reader → Closes (coming front.next reader) (Ok tt) → Comes (declare 0 [] front.records) view (Err stop) → Opens first (Err stop)
-types_stop None front reader view stop p q d = tt
-types_stop (Some before) front reader view stop p q d = types_refused before front.records (coming front.next reader) view stop p q d
+pub types_stop : (first : Option Bundle) (front : Read) (reader : Reading) (stop : Stop) → FrontIs first (Ok front) reader → Closes (coming front.next reader) (Ok tt) → Stops (declare 0 [] front.records) stop → Opens first (Err stop)
+types_stop None front reader stop p q d = tt
+types_stop (Some before) front reader stop p q d = types_refused before front.records (coming front.next reader) stop p q d
