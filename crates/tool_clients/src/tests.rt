@@ -1,44 +1,18 @@
-//! A fetch and a push over nets in memory.
-ghost use Rattle.std.specs.Prelude.{◌≡◌, IfSome};
+//! A push to a peer that has another object under the same identifier, where a naming names every object alike.
+ghost use Rattle.std.specs.Prelude.{IfSome};
 ghost use Rattle.mirror_rounds.specs.Pushes.{MayPush};
 ghost use Rattle.type_registry.specs.Weak.{zeros};
 
-use crate::{fetch_from, mirror_objects};
+use crate::mirror_objects;
 use lookup_messages::Fetched;
 use std::alloc::Global;
 use std::test::Fail;
-use tool_output::{Cause, Ending};
+use tool_output::Ending;
 use type_object::{kind_of, read_object};
 use type_registry::Naming;
 use type_trees::HashId;
 use xt_io::{MemNet, MemSink, Script};
 use xt_lists::{OutOfMemory, Row, Text, Word};
-
-// The minimal object of `@final struct C { long color; };`, as a record.
-const RECORD: &[u8] =
-    b"\x01\x00\x00\x00\x27\x23\x00\x00\x00\xf1\x51\x01\x00\x01\x00\x00\x00\x00\x00\x00\x00\x13\x00\x00\x00\x01\x00\x00\x00\x0b\x00\x00\x00\x00\x00\x00\x00\x01\x00\x04\x70\xdd\xa5\xdf";
-
-// The reply with it.
-const FOUND: &[u8] =
-    b"\x00\x00\x00\x47\x01\xd3\x52\x82\x01\x01\x00\x00\x00\x01\x00\x00\x00\xf1\x66\xf0\xc7\x26\x00\xad\x68\x10\x64\x16\xfe\x70\xf8\x5e\x27\x00\x00\x00\x23\x00\x00\x00\xf1\x51\x01\x00\x01\x00\x00\x00\x00\x00\x00\x00\x13\x00\x00\x00\x01\x00\x00\x00\x0b\x00\x00\x00\x00\x00\x00\x00\x01\x00\x04\x70\xdd\xa5\xdf";
-
-// The reply with nothing.
-const NOTHING: &[u8] = b"\x00\x00\x00\x0d\x01\xd3\x52\x82\x01\x01\x00\x00\x00\x00\x00\x00\x00";
-
-// The Note that it makes.
-const NOT_SERVED: &[u8] = b"\x05\x00\x00\x00\x2ffetch not-served f166f0c72600ad68106416fe70f85e";
-
-// The Note of a net that failed.
-const NET_FAULT: &[u8] = b"\x05\x00\x00\x00\x09net-fault";
-
-fn identifier() -> HashId
-    ensures { result.kind ≡ 241 }
-{
-    HashId {
-        kind: 0xf1,
-        hash: *b"\x66\xf0\xc7\x26\x00\xad\x68\x10\x64\x16\xfe\x70\xf8\x5e",
-    }
-}
 
 fn one(alloc: Global, number: u64) -> Result<Row<u64>, OutOfMemory> {
     let mut numbers = Row::new(alloc);
@@ -61,50 +35,6 @@ fn net(alloc: Global, link: Script, fails: u64) -> Result<MemNet, OutOfMemory> {
     Ok(MemNet::new(alloc, Row::new(alloc), Some(link), fails))
 }
 
-// Whether a fetch of the object from such a peer ends so and writes this.
-fn fetches(alloc: Global, mut net: MemNet, ended: Ending, text: &[u8]) -> bool {
-    let Ok(to) = Word::from_octets(alloc, b"peer") else {
-        return false;
-    };
-    let mut sink = MemSink::new(alloc, 100, &[]);
-    let came = fetch_from(alloc, &to, identifier(), &mut sink, &mut net);
-    came == Ok(ended) && sink.octets() == text
-}
-
-#[test]
-fn an_object_is_fetched(rt: HostRuntime) -> Result<(), Fail> {
-    let alloc = rt.alloc();
-    let link = script(alloc, FOUND, 0).expect(&rt, "memory");
-    let net = net(alloc, link, 0).expect(&rt, "memory");
-    assert!(rt; fetches(alloc, net, Ending::Done, RECORD));
-    Ok(())
-}
-
-#[test]
-fn an_object_is_not_served(rt: HostRuntime) -> Result<(), Fail> {
-    let alloc = rt.alloc();
-    let link = script(alloc, NOTHING, 0).expect(&rt, "memory");
-    let net = net(alloc, link, 0).expect(&rt, "memory");
-    let ended = Ending::Refused(Cause::Fetch);
-    assert!(rt; fetches(alloc, net, ended, NOT_SERVED));
-    Ok(())
-}
-
-// Four calls send the request and read the 4 and the 71 octets of the reply.
-#[test]
-fn each_failing_call_is_told(rt: HostRuntime) -> Result<(), Fail> {
-    let alloc = rt.alloc();
-    for call in 1u64..5 {
-        let link = script(alloc, FOUND, call).expect(&rt, "memory");
-        let net = net(alloc, link, 0).expect(&rt, "memory");
-        assert!(rt; fetches(alloc, net, Ending::Refused(Cause::NetFault), NET_FAULT));
-    }
-    let link = script(alloc, FOUND, 5).expect(&rt, "memory");
-    let net = net(alloc, link, 1).expect(&rt, "memory");
-    assert!(rt; fetches(alloc, net, Ending::Refused(Cause::NetFault), NET_FAULT));
-    Ok(())
-}
-
 /// Names every object alike.
 struct Alike;
 
@@ -116,7 +46,7 @@ impl Naming for Alike {
     }
 }
 
-// The object with another hash of its member's name.
+// The minimal object of `@final struct C { long color; };` with another hash of its member's name.
 const OTHER: &[u8] =
     b"\x23\x00\x00\x00\xf1\x51\x01\x00\x01\x00\x00\x00\x00\x00\x00\x00\x13\x00\x00\x00\x01\x00\x00\x00\x0b\x00\x00\x00\x00\x00\x00\x00\x01\x00\x04\x70\xdd\xa5\x01";
 

@@ -5,7 +5,5 @@ mod doors;
 mod lines;
 mod registering;
 mod serving;
-#[cfg(test)]
-mod tests;
 
 pub use serving::{serve_at, serve_pool};

@@ -1,3 +1,3 @@
 pub mod Headlines
 pub mod Tops
-pub mod Peers
+pub mod NetEnds

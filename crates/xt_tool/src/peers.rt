@@ -59,7 +59,7 @@ fn run_net<R: Threads + Sync, S: Source, K: Sink, N: Net>(
 }
 
 /// Does what is asked of peers, or lets them ask, and answers the status.
-#[tactic(auto, using(crate::proofs::Peers::ends, crate::proofs::Tops::done_ends, crate::proofs::Tops::no_read_fault, crate::proofs::Tops::no_write_fault, crate::proofs::Peers::halts_in, crate::proofs::Peers::wants_in, crate::proofs::Peers::tells, crate::proofs::Peers::tells_part, crate::proofs::Peers::net_failed))]
+#[tactic(auto, using(crate::proofs::NetEnds::ends, crate::proofs::Tops::done_ends, crate::proofs::Tops::no_read_fault, crate::proofs::Tops::no_write_fault, crate::proofs::NetEnds::halts_in, crate::proofs::NetEnds::wants_in, crate::proofs::NetEnds::tells, crate::proofs::NetEnds::tells_part, crate::proofs::NetEnds::net_failed))]
 pub(crate) fn answer_over_net<R: Threads + Sync, S: Source, K: Sink, N: Net>(
     rt: &R,
     alloc: Global,
