@@ -1,13 +1,13 @@
 -- What may be written of a pool, and of a bundle.
 use Rattle.std.proofs.Common.{◌≡◌, ℕ, ◌*◌, List, None, Some, Result, Ok, Err, inl, inr, refl, sym, ap, ◌∙◌, subst}
-use Rattle.std.specs.Prelude.{Option, IfOk, OnOk, IsErrOf, IfErr}
+use Rattle.std.specs.Prelude.{Option, IfOk, OnOk, IsErrOf}
 use Rattle.std.specs.List.{Contains}
 use Rattle.std.specs.Option.{option_map}
 use Rattle.xt_io.specs.declared.NetFault.{NetFault}
 use Rattle.xt_io.specs.declared.NetFault.TheVariants.{Failed, OutOfMemory}
 use Rattle.xt_io.specs.Bundles.{bundle}
 use Rattle.xt_io.specs.Outside.{Rose}
-use Rattle.xt_io.specs.Links.{Held, IsToldAs}
+use Rattle.xt_io.specs.Links.{IsToldAs}
 use Rattle.type_trees.specs.declared.types.HashId.{HashId}
 use Rattle.type_object.specs.Pools.{Texts}
 use Rattle.type_registry.specs.Held as cells
@@ -18,16 +18,16 @@ use Rattle.tool_output.specs.declared.ending.Style.TheVariants.{Lines}
 use Rattle.tool_output.specs.declared.halt.Halt.{Halt}
 use Rattle.tool_output.specs.declared.stop.Stop.{Stop}
 use Rattle.tool_output.specs.declared.stop.Stop.TheVariants as stops
-use Rattle.tool_output.specs.Outputs.{Output, Refusal, refused}
-use Rattle.tool_output.specs.Runs.{ComesTold, Ends, refusal}
+use Rattle.tool_output.specs.Outputs.{Output, refused}
+use Rattle.tool_output.specs.Runs.{ComesTold, refusal}
 use Rattle.tool_runs.specs.Stopping.{Concludes}
-use Rattle.tool_nets.specs.Nets.{Net, Fails, EndsIn}
-use Rattle.tool_nets.specs.Opened.{AllowedOf, Behind, StopsFront, opened}
+use Rattle.tool_nets.specs.Nets.{Net, EndsIn}
+use Rattle.tool_nets.specs.Opened.{Behind, StopsFront, opened}
 use Rattle.tool_serving.specs.declared.registering.Unregistered.TheVariants.{Clash, Full}
 use Rattle.tool_serving.specs.Lines.{clash_output, full_output}
 use Rattle.tool_serving.specs.Registering.{IsUnregistered}
 use Rattle.tool_serving.specs.Seats.{IsSaid}
-use Rattle.tool_serving.specs.Serving.{ClashSaid, FullSaid, ServeSaid, DoorsHeld, ServeAllows}
+use Rattle.tool_serving.specs.Serving.{DoorsHeld, ServeAllows}
 
 module _ (name : List ℕ → List ℕ) (to : List ℕ) (workers turns : ℕ) (pool : Texts) (net : Net) where
   -- what came of serving

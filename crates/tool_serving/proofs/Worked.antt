@@ -1,5 +1,5 @@
 -- What the doors of workers held, and that one of them failed.
-use Rattle.std.proofs.Common.{◌≡◌, ℕ, ◌+◌, ◌<◌, ◌≤◌, suc, List, [], ◌∷◌, ◌++◌, ◌||◌, Bool, true, false, nat_lt, map, reverse, length, None, Some, Ok, Err, inl, inr, refl, sym, ap, ◌∙◌, subst, arith}
+use Rattle.std.proofs.Common.{◌≡◌, ℕ, ◌<◌, suc, List, [], ◌∷◌, ◌++◌, ◌||◌, Bool, true, false, nat_lt, map, reverse, length, None, Some, Ok, Err, inl, inr, refl, sym, ap, ◌∙◌, subst, arith}
 use Rattle.std.specs.Prelude.{All, Option, Result, OnOk}
 use Rattle.std.specs.List.{list_any}
 use Rattle.std.proofs.lemmas.Bool.{lt-ltb}
@@ -14,7 +14,7 @@ use Rattle.lookup_workers.specs.declared.faults.ServeFault.{ServeFault}
 use Rattle.lookup_workers.specs.declared.faults.ServeFault.TheVariants.{DoorFault, OutOfMemory}
 use Rattle.lookup_workers.specs.Outcomes.{Answer, both_of, AllWorked, AnyTwo, without_count}
 use Rattle.lookup_workers.specs.Served.{IsServed, SeatServed}
-use Rattle.tool_serving.specs.Serving.{DoorHeld, DoorsHeld}
+use Rattle.tool_serving.specs.Serving.{DoorsHeld}
 use Rattle.tool_serving.specs.Seats.{AreHeld, Knows, TellsHeld}
 use Rattle.tool_serving.proofs.Seated.{Ready}
 use Rattle.tool_serving.proofs.Reversed.{all_reverse, all_behind_map, any_map, any_reverse}

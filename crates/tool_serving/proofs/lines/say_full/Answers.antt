@@ -1,9 +1,9 @@
-use Rattle.std.proofs.Common.{Some, map}
+use Rattle.std.proofs.Common.{Some}
 use Rattle.tool_output.specs.declared.ending.Style.TheVariants.{Lines}
-use Rattle.tool_output.specs.Outputs.{after_pieces, refused}
+use Rattle.tool_output.specs.Outputs.{refused}
 use Rattle.tool_output.proofs.Written.{writes_on}
 use Rattle.tool_runs.proofs.Joined.{concluded}
-use Rattle.tool_serving.specs.Lines.{full_output, full_text, held_line, types_refusal}
+use Rattle.tool_serving.specs.Lines.{full_output, full_text, types_refusal}
 use Rattle.tool_serving.proofs.lines.say_full.Goals as goal
 
 pub returns-in-Ok-clause-ends : goal.returns-in-Ok-clause-ends
