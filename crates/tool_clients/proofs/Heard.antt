@@ -1,5 +1,5 @@
 -- What is told of a link that was new, and was given back.
-use Rattle.std.proofs.Common.{◌≡◌, ℕ, ◌≤◌, ◌⊎◌, List, [], ◌∷◌, ◌++◌, Bool, true, None, Some, Result, IfOk, All, IsErrOf, inl, inr, nat_lt, refl, ap, ◌∙◌, subst, arith}
+use Rattle.std.proofs.Common.{◌≡◌, ℕ, ◌≤◌, ◌⊎◌, List, [], ◌∷◌, ◌++◌, Bool, true, None, Some, Result, IfOk, All, IsErrOf, inl, inr, nat_lt, refl, sym, ap, ◌∙◌, subst, arith}
 use Rattle.std.proofs.lemmas.Bool.{lt-ltb}
 use Rattle.std.specs.declared.option.Option.{Option}
 use Rattle.std.specs.Io.KnownBytes.{append_known}
@@ -24,11 +24,11 @@ told_some None now octets p q = inl q
 told_some (Some told) now octets p q = inr (q ∙ ap (λ (l : List ℕ). Some (l ++ octets)) p)
 
 none_heard : (heard : Heard) (link : Option Heard) → link ≡ None → link ≡ Some heard → ⊥
-none_heard heard link p q = rw p at q in cc
+none_heard heard link p q = let none : Option Heard = None in let apart : none ≡ Some heard = sym p ∙ q in cc
 
 from_taken : (heard : Heard) (taken taken_now left : Option (List ℕ)) (octets sent : List ℕ) → IsToldEmpty taken → taken_now ≡ append_known taken sent → IsHeardFrom (Some heard) (heard_of (Some octets) taken_now left) → IsHeardFrom (Some heard) (heard_of (Some octets) (Some sent) left)
-from_taken heard taken taken_now left octets sent empty gave is = elim told_some taken taken_now sent empty gave [
-    inl none ↦ absurd (none_heard heard (heard_of (Some octets) taken_now left) (ap (λ t. heard_of (Some octets) t left) none) is)
+from_taken heard taken taken_now left octets sent empty gave is = elim (told_some taken taken_now sent empty gave) [
+  | inl none ↦ absurd (none_heard heard (heard_of (Some octets) taken_now left) (ap (λ t. heard_of (Some octets) t left) none) is)
   | inr some ↦ subst (λ (t : Option (List ℕ)). IsHeardFrom (Some heard) (heard_of (Some octets) t left)) some is
 ]
 
@@ -36,8 +36,8 @@ from_taken heard taken taken_now left octets sent empty gave is = elim told_some
 pub heard_over : (net : Option Heard) (got got_now taken taken_now left : Option (List ℕ)) (octets sent : List ℕ) → IsToldEmpty got → IsToldEmpty taken → got_now ≡ append_known got octets → taken_now ≡ append_known taken sent → IsHeardFrom net (heard_of got_now taken_now left)
     → IsHeardFrom net (heard_of (Some octets) (Some sent) left)
 heard_over None got got_now taken taken_now left octets sent no_got no_taken took gave is = tt
-heard_over (Some heard) got got_now taken taken_now left octets sent no_got no_taken took gave is = elim told_some got got_now octets no_got took [
-    inl none ↦ absurd (none_heard heard (heard_of got_now taken_now left) (ap (λ g. heard_of g taken_now left) none) is)
+heard_over (Some heard) got got_now taken taken_now left octets sent no_got no_taken took gave is = elim (told_some got got_now octets no_got took) [
+  | inl none ↦ absurd (none_heard heard (heard_of got_now taken_now left) (ap (λ g. heard_of g taken_now left) none) is)
   | inr some ↦ from_taken heard taken taken_now left octets sent no_taken gave (subst (λ (g : Option (List ℕ)). IsHeardFrom (Some heard) (heard_of g taken_now left)) some is)
 ]
 

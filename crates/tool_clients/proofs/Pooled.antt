@@ -17,7 +17,7 @@ use Rattle.tool_clients.specs.Clients.{objects_in}
 -- ---- distinct identifiers
 
 apart : (a b : HashId) → a ≢ b → same_id a b ≡ false
-apart a b other = elim same_id_tells a b [ inl same ↦ absurd (other same.1) | inr differ ↦ differ.0 ]
+apart a b other = elim (same_id_tells a b) [ inl same ↦ absurd (other same.1) | inr differ ↦ differ.0 ]
 
 none_at : (id : HashId) (pool : Texts) → ((k : ℕ) (e : HashId × List ℕ) → k < length pool → id ≢ (get_or pool k e).0) → object_at id (objects_in pool) ≡ None
 none_at id [] others = refl
