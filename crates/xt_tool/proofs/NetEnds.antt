@@ -72,7 +72,7 @@ net_cause (endings.Refused causes.Json) e = absurd cc
 net_cause (endings.Refused causes.Fetch) e = absurd cc
 net_cause (endings.Refused causes.Limit) e = absurd cc
 
-ending_in : Option Output → Ending
+abbrev ending_in : Option Output → Ending
 ending_in None = endings.Done
 ending_in (Some output) = output.ending
 
@@ -91,7 +91,7 @@ push_failed (Err push.LinkFault) e = refl
 push_failed (Err push.BadReply) e = absurd cc
 push_failed (Err push.OutOfMemory) e = absurd cc
 
-IsNet : Output → Type 0
+abbrev IsNet : Output → Type 0
 IsNet output = output.ending ≡ endings.Refused causes.NetFault
 
 fetch_rose : (to : List ℕ) (id : HashId) (net : Net) (output : Output) → FetchAllows to id net output → IsNet output → Rose net.before net.now
