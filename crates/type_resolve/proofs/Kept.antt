@@ -73,7 +73,7 @@ is_added pool new i bs e = added_by pool new i bs (object_of bs) refl e
 
 -- ---- all texts
 
-keeps_held : (old new : Texts) (bs : List ℕ) → Keeps old new → IsHeld old bs → IsHeld new bs
+pub keeps_held : (old new : Texts) (bs : List ℕ) → Keeps old new → IsHeld old bs → IsHeld new bs
 keeps_held old new bs keeps h = record { there = keeps (named bs) bs h.there; read = h.read }
 
 after_by : (r : Result (HashId × Texts) Refusal) (old new : Texts) (t : List ℕ) (ts : List (List ℕ)) → ((mid : Texts) → all_added mid ts ≡ (new, None) → Keeps mid new × AreHeld new ts)

@@ -12,3 +12,4 @@ pub mod Returning
 pub mod Resolves
 pub mod Valid
 pub mod Again
+pub mod Known

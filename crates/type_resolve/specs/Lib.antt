@@ -3,3 +3,4 @@ pub mod Adding
 pub mod Views
 pub mod Held
 pub mod Worked
+pub mod Known

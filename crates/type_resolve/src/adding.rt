@@ -4,11 +4,12 @@ ghost use Rattle.object_formats.specs.View as view;
 ghost use Rattle.type_object.specs.Names.{named};
 ghost use Rattle.type_resolve.specs.Views.{Stores, AddsMade, itself, forms, form_texts, form_ids};
 
+use crate::making::Making;
 use crate::objects::Pair;
 use crate::sides::Identifiers;
 use object_formats::TypeObject;
 use std::alloc::Global;
-use type_object::{Pool, PoolFault, write_object};
+use type_object::{PoolFault, write_object};
 use type_trees::HashId;
 use xt_lists::OutOfMemory;
 
@@ -24,7 +25,11 @@ pub(crate) fn made<T>(what: Result<T, OutOfMemory>) -> Result<T, PoolFault>
 
 /// Adds an object's text, and gives its identifier.
 #[tactic(auto, using(crate::proofs::Added::added_rules))]
-fn add_object(alloc: Global, object: &TypeObject, pool: &mut Pool) -> Result<HashId, PoolFault>
+fn add_object(
+    alloc: Global,
+    object: &TypeObject,
+    pool: &mut Making<'_>,
+) -> Result<HashId, PoolFault>
     ensures { Stores itself result pool.old (text_of (view.object object.now) ∷ []) pool.new (named (text_of (view.object object.now))) }
 {
     let Ok(text) = write_object(alloc, object) else {
@@ -34,7 +39,7 @@ fn add_object(alloc: Global, object: &TypeObject, pool: &mut Pool) -> Result<Has
 }
 
 /// Adds the minimal object, and then the complete one.
-fn add_pair(alloc: Global, pair: &Pair, pool: &mut Pool) -> Result<Identifiers, PoolFault>
+fn add_pair(alloc: Global, pair: &Pair, pool: &mut Making<'_>) -> Result<Identifiers, PoolFault>
     ensures { Stores itself result pool.old (form_texts (forms pair.now)) pool.new (form_ids (forms pair.now)) }
 {
     let minimal = add_object(alloc, &pair.minimal, pool)?;
@@ -46,7 +51,7 @@ fn add_pair(alloc: Global, pair: &Pair, pool: &mut Pool) -> Result<Identifiers, 
 pub(crate) fn add_made(
     alloc: Global,
     pair: Result<Pair, OutOfMemory>,
-    pool: &mut Pool,
+    pool: &mut Making<'_>,
 ) -> Result<Identifiers, PoolFault>
     ensures { AddsMade pair result pool.old pool.new }
 {

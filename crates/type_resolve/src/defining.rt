@@ -3,10 +3,13 @@ ghost use Rattle.object_formats.specs.Objects as o;
 ghost use Rattle.type_trees.specs.View.{tree};
 ghost use Rattle.type_resolve.specs.Adding.{Adds, Halts};
 ghost use Rattle.type_resolve.specs.Objects as spec;
+ghost use Rattle.type_resolve.specs.Views.{Stores, hashes_seen, sides};
 
+use crate::making::Making;
 use crate::sides::Identifiers;
 use crate::walk::{alias, bitmask, enumeration, structure, union};
 use std::alloc::Global;
+use std::mem;
 use type_object::{Pool, PoolFault};
 use type_trees::{Named, XType};
 
@@ -22,10 +25,32 @@ pub fn has_objects(ty: &XType) -> bool
     }
 }
 
+/// Adds the objects of a type as `objects_of` does.
+#[tactic(auto, using(type_trees::proofs::Views::tree_rules))]
+fn add_objects<'a>(
+    alloc: Global,
+    ty: &'a XType,
+    pool: &mut Making<'a>,
+) -> Result<Identifiers, PoolFault>
+    requires { spec.has_objects (tree ty.now) ≡ true }
+    ensures { Stores hashes_seen result pool.old (spec.texts (tree ty.now)) pool.new (sides (tree ty.now)) }
+{
+    match ty {
+        XType::Enum(kind) => enumeration(alloc, kind, pool),
+        XType::Mask(kind) => bitmask(alloc, kind, pool),
+        XType::Struct(kind) => structure(alloc, kind, pool),
+        XType::Union(kind) => union(alloc, kind, pool),
+        XType::Alias(kind) => alias(alloc, kind, pool),
+        XType::Prim(_) | XType::Str(_) | XType::Seq(_) | XType::Array(_) | XType::Map(_) => {
+            unreachable!()
+        }
+    }
+}
+
 /// Adds the objects of a type and of all types in it that have objects, and gives the type's identifiers (DDS-XTypes 1.3, 7.3.4; the order
 /// is this profile's own). What stands inside comes first, and of each type the minimal object before the complete one. A structure's base
 /// comes first with what it needs, then what the structure's own members need, then the structure; a map's key comes before its value. An
-/// object that is there already is not added again.
+/// object that is there already is not added again, and a structure or union that stands in the type a second time is not made again.
 ///
 /// The faults are those of the first text that `Pool::add` refuses: a text past 131,072 octets is `Object` with the rule Long. The objects
 /// before it stay in the pool. Where memory is wanting, a beginning of them was added. Types in it are meant to have names, and these to be
@@ -38,14 +63,8 @@ pub fn objects_of(alloc: Global, named: &Named, pool: &mut Pool) -> Result<Ident
     ensures complete { IfOk result (λ ids. spec.identifier true (tree named.now.ty) ≡ o.hash ids.complete) }
     ensures halted { IfErr result (λ fault. Halts fault pool.old (spec.texts (tree named.now.ty)) pool.new) }
 {
-    match &named.ty {
-        XType::Enum(kind) => enumeration(alloc, kind, pool),
-        XType::Mask(kind) => bitmask(alloc, kind, pool),
-        XType::Struct(kind) => structure(alloc, kind, pool),
-        XType::Union(kind) => union(alloc, kind, pool),
-        XType::Alias(kind) => alias(alloc, kind, pool),
-        XType::Prim(_) | XType::Str(_) | XType::Seq(_) | XType::Array(_) | XType::Map(_) => {
-            unreachable!()
-        }
-    }
+    let mut making = Making::new(alloc, mem::replace(pool, Pool::new(alloc)));
+    let ids = add_objects(alloc, &named.ty, &mut making);
+    *pool = making.take(alloc);
+    ids
 }

@@ -6,6 +6,7 @@ mod collections;
 mod defining;
 mod flags;
 mod laws;
+mod making;
 mod objects;
 mod parts;
 mod sides;

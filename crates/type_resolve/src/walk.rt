@@ -2,14 +2,16 @@ ghost use Rattle.std.specs.Prelude.{◌≡◌, false, true};
 ghost use Rattle.type_trees.specs.Trees as trees;
 ghost use Rattle.type_trees.specs.View.{tree, alias_tree, array_tree, map_tree, sequence_tree, member_tree, struct_tree, union_tree, members_tree, cases_tree};
 ghost use Rattle.type_resolve.specs.Objects as spec;
-ghost use Rattle.type_resolve.specs.Views.{Stores, seen, sides, hashes_seen, member_sides, case_sides};
+ghost use Rattle.type_resolve.specs.Held.{AreHeld};
+ghost use Rattle.type_resolve.specs.Views.{Makes, Stores, seen, sides, hashes_seen, member_sides, case_sides};
 
 use crate::adding::add_made;
 use crate::collections::{of_array, of_hashes, of_map, of_prim, of_sequence, of_string};
+use crate::making::Making;
 use crate::objects::{Header, alias_pair, enum_pair, mask_pair, struct_pair, union_pair};
 use crate::sides::{CaseSides, Identifiers, MemberSides, Sides};
 use std::alloc::Global;
-use type_object::{Pool, PoolFault};
+use type_object::PoolFault;
 use type_trees::{
     AliasType, ArrayType, Case, EnumType, MapType, MaskType, Member, SeqType, StructType,
     UnionType, XType,
@@ -18,7 +20,7 @@ use type_trees::{
 pub(crate) fn enumeration(
     alloc: Global,
     kind: &EnumType,
-    pool: &mut Pool,
+    pool: &mut Making<'_>,
 ) -> Result<Identifiers, PoolFault>
     ensures { Stores hashes_seen result pool.old (spec.texts (trees.enumeration kind.now.name kind.now.ext kind.now.bits kind.now.literals)) pool.new (sides (trees.enumeration kind.now.name kind.now.ext kind.now.bits kind.now.literals)) }
 {
@@ -28,19 +30,35 @@ pub(crate) fn enumeration(
 pub(crate) fn bitmask(
     alloc: Global,
     kind: &MaskType,
-    pool: &mut Pool,
+    pool: &mut Making<'_>,
 ) -> Result<Identifiers, PoolFault>
     ensures { Stores hashes_seen result pool.old (spec.texts (trees.bitmask kind.now.name kind.now.bits kind.now.flags)) pool.new (sides (trees.bitmask kind.now.name kind.now.bits kind.now.flags)) }
 {
     add_made(alloc, mask_pair(alloc, kind), pool)
 }
 
-/// Adds the objects that a type needs, and gives what it is named by.
+/// Keeps in mind a type whose objects were all added, and gives what it is named by.
+fn keep<'a>(ty: &'a XType, ids: Identifiers, pool: &mut Making<'a>) -> Result<Sides, PoolFault>
+    requires held { AreHeld pool.old (spec.texts (tree ty.now)) }
+    requires named { hashes_seen ids ≡ sides (tree ty.now) }
+    ensures made { Makes seen result (sides (tree ty.now)) }
+    ensures same { pool.new ≡ pool.old }
+{
+    match pool.keep(ty, ids) {
+        Ok(()) => Ok(of_hashes(ids)),
+        Err(_) => Err(PoolFault::OutOfMemory),
+    }
+}
+
+/// Adds the objects that a type needs, and gives what it is named by. A structure or union that was met before is not made again.
 #[cycle(objects)]
 #[tactic(auto, using(type_trees::proofs::Views::tree_rules))]
-fn identify(alloc: Global, ty: &XType, pool: &mut Pool) -> Result<Sides, PoolFault>
+fn identify<'a>(alloc: Global, ty: &'a XType, pool: &mut Making<'a>) -> Result<Sides, PoolFault>
     ensures { Stores seen result pool.old (spec.texts (tree ty.now)) pool.new (sides (tree ty.now)) }
 {
+    if let Some(ids) = pool.known(ty) {
+        return Ok(of_hashes(ids));
+    }
     match ty {
         XType::Prim(prim) => Ok(of_prim(*prim)),
         XType::Str(bound) => Ok(of_string(*bound)),
@@ -49,14 +67,20 @@ fn identify(alloc: Global, ty: &XType, pool: &mut Pool) -> Result<Sides, PoolFau
         XType::Seq(kind) => sequence(alloc, kind, pool),
         XType::Array(kind) => array(alloc, kind, pool),
         XType::Map(kind) => map(alloc, kind, pool),
-        XType::Struct(kind) => Ok(of_hashes(structure(alloc, kind, pool)?)),
-        XType::Union(kind) => Ok(of_hashes(union(alloc, kind, pool)?)),
+        XType::Struct(kind) => {
+            let ids = structure(alloc, kind, pool)?;
+            keep(ty, ids, pool)
+        }
+        XType::Union(kind) => {
+            let ids = union(alloc, kind, pool)?;
+            keep(ty, ids, pool)
+        }
         XType::Alias(kind) => Ok(of_hashes(alias(alloc, kind, pool)?)),
     }
 }
 
 #[cycle(objects)]
-fn sequence(alloc: Global, kind: &SeqType, pool: &mut Pool) -> Result<Sides, PoolFault>
+fn sequence<'a>(alloc: Global, kind: &'a SeqType, pool: &mut Making<'a>) -> Result<Sides, PoolFault>
     ensures { Stores seen result pool.old (spec.texts (sequence_tree kind.now)) pool.new (sides (sequence_tree kind.now)) }
 {
     let element = identify(alloc, &kind.elem.ty, pool)?;
@@ -64,7 +88,7 @@ fn sequence(alloc: Global, kind: &SeqType, pool: &mut Pool) -> Result<Sides, Poo
 }
 
 #[cycle(objects)]
-fn array(alloc: Global, kind: &ArrayType, pool: &mut Pool) -> Result<Sides, PoolFault>
+fn array<'a>(alloc: Global, kind: &'a ArrayType, pool: &mut Making<'a>) -> Result<Sides, PoolFault>
     ensures { Stores seen result pool.old (spec.texts (array_tree kind.now)) pool.new (sides (array_tree kind.now)) }
 {
     let element = identify(alloc, &kind.elem.ty, pool)?;
@@ -72,7 +96,7 @@ fn array(alloc: Global, kind: &ArrayType, pool: &mut Pool) -> Result<Sides, Pool
 }
 
 #[cycle(objects)]
-fn map(alloc: Global, kind: &MapType, pool: &mut Pool) -> Result<Sides, PoolFault>
+fn map<'a>(alloc: Global, kind: &'a MapType, pool: &mut Making<'a>) -> Result<Sides, PoolFault>
     ensures { Stores seen result pool.old (spec.texts (map_tree kind.now)) pool.new (sides (map_tree kind.now)) }
 {
     let key = identify(alloc, &kind.key.ty, pool)?;
@@ -81,10 +105,10 @@ fn map(alloc: Global, kind: &MapType, pool: &mut Pool) -> Result<Sides, PoolFaul
 }
 
 #[cycle(objects)]
-pub(crate) fn alias(
+pub(crate) fn alias<'a>(
     alloc: Global,
-    kind: &AliasType,
-    pool: &mut Pool,
+    kind: &'a AliasType,
+    pool: &mut Making<'a>,
 ) -> Result<Identifiers, PoolFault>
     ensures { Stores hashes_seen result pool.old (spec.texts (alias_tree kind.now)) pool.new (sides (alias_tree kind.now)) }
 {
@@ -93,10 +117,10 @@ pub(crate) fn alias(
 }
 
 #[cycle(objects)]
-pub(crate) fn union(
+pub(crate) fn union<'a>(
     alloc: Global,
-    kind: &UnionType,
-    pool: &mut Pool,
+    kind: &'a UnionType,
+    pool: &mut Making<'a>,
 ) -> Result<Identifiers, PoolFault>
     ensures { Stores hashes_seen result pool.old (spec.texts (union_tree kind.now)) pool.new (sides (union_tree kind.now)) }
 {
@@ -117,10 +141,10 @@ pub(crate) fn union(
 
 /// A structure's bases come first, the outermost one before the others.
 #[cycle(objects)]
-pub(crate) fn structure(
+pub(crate) fn structure<'a>(
     alloc: Global,
-    kind: &StructType,
-    pool: &mut Pool,
+    kind: &'a StructType,
+    pool: &mut Making<'a>,
 ) -> Result<Identifiers, PoolFault>
     ensures { Stores hashes_seen result pool.old (spec.texts (struct_tree kind.now)) pool.new (sides (struct_tree kind.now)) }
 {
@@ -167,7 +191,11 @@ fn between(members: &[Member], had: usize, count: usize) -> &[Member]
 
 #[cycle(objects)]
 #[tactic(auto, using(type_trees::proofs::Views::member_tree_is))]
-fn member_type(alloc: Global, member: &Member, pool: &mut Pool) -> Result<Sides, PoolFault>
+fn member_type<'a>(
+    alloc: Global,
+    member: &'a Member,
+    pool: &mut Making<'a>,
+) -> Result<Sides, PoolFault>
     ensures { Stores seen result pool.old (spec.texts (member_tree member.now).1) pool.new (sides (member_tree member.now).1) }
 {
     identify(alloc, &member.ty, pool)
@@ -175,12 +203,12 @@ fn member_type(alloc: Global, member: &Member, pool: &mut Pool) -> Result<Sides,
 
 /// The members behind the first `had`, up to a count.
 #[cycle(objects)]
-fn members(
+fn members<'a>(
     alloc: Global,
-    members: &[Member],
+    members: &'a [Member],
     had: usize,
     count: usize,
-    pool: &mut Pool,
+    pool: &mut Making<'a>,
 ) -> Result<MemberSides, PoolFault>
     ensures { let own = members_tree (spec.between had count members.now) in Stores member_sides result pool.old (spec.joined (spec.member_texts own)) pool.new (spec.member_parts false own, spec.member_parts true own) }
 {
@@ -194,7 +222,11 @@ fn members(
 }
 
 #[cycle(objects)]
-fn cases(alloc: Global, cases: &[Case], pool: &mut Pool) -> Result<CaseSides, PoolFault>
+fn cases<'a>(
+    alloc: Global,
+    cases: &'a [Case],
+    pool: &mut Making<'a>,
+) -> Result<CaseSides, PoolFault>
     ensures { Stores case_sides result pool.old (spec.case_texts (cases_tree cases.now)) pool.new (spec.case_parts false (cases_tree cases.now), spec.case_parts true (cases_tree cases.now)) }
 {
     let mut parts = CaseSides::new(alloc);

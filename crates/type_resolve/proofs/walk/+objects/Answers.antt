@@ -3,11 +3,12 @@ use Rattle.std.proofs.Common.{ap, ◌∙◌, arith, rules}
 use Rattle.std.specs.Prelude.{Ok}
 use Rattle.std.proofs.lemmas.Result.{err_from_is_err_and}
 use Rattle.type_trees.proofs.types.Member.TheLaws as member_laws
-use Rattle.type_trees.proofs.Views.{tree_prim, tree_str, sequence_tree_is, array_tree_is, map_tree_is, alias_tree_is, union_tree_is}
+use Rattle.type_trees.proofs.Views.{tree_prim, tree_str, tree_struct, tree_union, sequence_tree_is, array_tree_is, map_tree_is, alias_tree_is, union_tree_is}
 use Rattle.type_trees.specs.declared.types.StructType.{out-StructType}
 use Rattle.type_trees.specs.View.{tree, members_tree}
 use Rattle.type_resolve.specs.Views.{seen, hashes_seen, member_sides, case_sides}
 use Rattle.type_resolve.proofs.Added.{stores_err}
+use Rattle.type_resolve.proofs.Known.{held_after}
 use Rattle.type_resolve.proofs.Loops.{members_same, members_start, members_on, members_end, members_free, members_done, cases_start, cases_on, cases_end, cases_free, cases_done, none_behind}
 use Rattle.type_resolve.proofs.Layers.{most-of, head_of, none_yet, next_base, no_base_left, base_ends, base_refused, base_on, top_ends, top_stores}
 use Rattle.type_resolve.specs.Objects.{between}
@@ -57,6 +58,12 @@ identify-returns-in-Prim t c = prim_stores c.args.pool.now (tree c.args.ty.now) 
 
 pub identify-returns-in-Str : goal.identify-returns-in-Str
 identify-returns-in-Str t c = str_stores c.args.pool.now (tree c.args.ty.now) (seen c.of_string.result) c.in-Str.bound (ap tree c.in-Str.is ∙ tree_str c.in-Str.bound) c.of_string.ensures
+
+pub identify-keep-requires-clause-held : goal.identify-keep-requires-clause-held
+identify-keep-requires-clause-held t c = held_after (ap tree c.in-Struct.is ∙ tree_struct c.in-Struct.kind) (rw c.deref-in-Struct.ensures at c.in_ok-ids-in-Struct.ensures.0)
+
+pub identify-keep-requires-in-Union-clause-held : goal.identify-keep-requires-in-Union-clause-held
+identify-keep-requires-in-Union-clause-held t c = held_after (ap tree c.in-Union.is ∙ tree_union c.in-Union.kind) (rw c.deref-in-Union.ensures at c.in_ok-ids-in-Union.ensures.0)
 
 pub union-returns-in_err-disc : goal.union-returns-in_err-disc
 union-returns-in_err-disc t c =
