@@ -12,5 +12,3 @@ pub use machine::Machine;
 pub use probes::{is_probed, level_cells, probe};
 pub use theorem::finds_agree;
 
-#[cfg(test)]
-mod tests;

@@ -7,8 +7,6 @@ mod fetches;
 mod plan;
 mod replies;
 mod rounds;
-#[cfg(test)]
-mod tests;
 
 pub use faults::FetchFault;
 pub use fetches::fetch;

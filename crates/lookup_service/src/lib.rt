@@ -5,8 +5,6 @@
 mod ended;
 mod gate;
 mod sessions;
-#[cfg(test)]
-mod tests;
 
 pub use ended::Ended;
 pub use gate::{Gate, NoGate};

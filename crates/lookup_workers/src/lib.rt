@@ -5,8 +5,6 @@
 mod faults;
 mod halves;
 mod seat;
-#[cfg(test)]
-mod tests;
 mod turns;
 mod workers;
 

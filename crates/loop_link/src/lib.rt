@@ -3,7 +3,5 @@
 
 mod exchange;
 mod links;
-#[cfg(test)]
-mod tests;
 
 pub use links::LoopLink;

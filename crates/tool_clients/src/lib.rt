@@ -4,8 +4,6 @@
 mod fetching;
 mod mirroring;
 mod saying;
-#[cfg(test)]
-mod tests;
 
 pub use fetching::fetch_from;
 pub use mirroring::{mirror_objects, mirror_to};

@@ -5,8 +5,6 @@
 mod faults;
 mod frame;
 mod laws;
-#[cfg(test)]
-mod tests;
 mod transfer;
 
 pub use faults::FrameFault;

@@ -6,8 +6,6 @@ mod pushes;
 mod replies;
 mod requests;
 mod rounds;
-#[cfg(test)]
-mod tests;
 
 pub use mirror_pairs::{Gave, Give, Pair, Side, pairs_agree};
 pub use mirror_rounds::{PushFault, Told, What, pushes_tell};

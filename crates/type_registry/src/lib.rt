@@ -24,5 +24,3 @@ pub use pass::Pass;
 pub use registry::Registry;
 pub use trail::{Seen, Trail};
 
-#[cfg(test)]
-mod tests;

@@ -1,17 +1,12 @@
-//! The adapters over std and TCP, and the failing calls of what is in memory.
-ghost use Rattle.std.specs.Prelude.{IfOk};
-ghost use Rattle.xt_outside.specs.MemoryDoors.{IsFresh};
-
+//! The adapters over std and TCP, and what never fails.
 use crate::{
-    Door, Failed, Kind, Link, MemDoor, MemLink, MemNet, MemSink, MemSource, Net, NetFault,
-    ReadSource, Script, Sink, Source, SureLink, SureSink, SureSource, TcpDoor, TcpNet, Turn,
-    WriteSink, write_whole,
+    Door, Failed, Kind, Link, Net, NetFault, ReadSource, Sink, Source, SureLink, SureSink,
+    SureSource, TcpDoor, TcpNet, WriteSink, write_whole,
 };
 use std::alloc::Global;
 use std::io;
 use std::net::{Net as System, TcpListener, TcpStream};
-use std::test::Fail;
-use xt_lists::{OutOfMemory, Row, Text};
+use xt_lists::{OutOfMemory, Text};
 
 #[test]
 fn kinds_are_their_octets(rt: HostRuntime) {
@@ -134,23 +129,6 @@ fn an_address_that_is_none_is_a_fault(rt: HostRuntime) -> Result<(), OutOfMemory
 }
 
 #[test]
-fn a_listed_call_fails_once(rt: HostRuntime) {
-    let alloc = rt.alloc();
-    let mut into = [0u8; 4];
-    let mut source = MemSource::new(b"abc", 2, &[2]);
-    assert_eq!(rt; source.read(&mut into), Ok(2));
-    assert_eq!(rt; source.read(&mut into), Err(Failed));
-    assert_eq!(rt; source.read(&mut into), Ok(1));
-    assert_eq!(rt; into, *b"cb\0\0");
-    assert_eq!(rt; source.faults(), 1);
-    let mut sink = MemSink::new(alloc, 2, &[2]);
-    assert_eq!(rt; write_whole(&mut sink, b"abc"), Err(Failed));
-    assert_eq!(rt; write_whole(&mut sink, b"de"), Ok(()));
-    assert_eq!(rt; sink.octets(), b"abde".as_slice());
-    assert_eq!(rt; sink.faults(), 1);
-}
-
-#[test]
 fn what_never_fails(rt: HostRuntime) {
     let mut into = [0u8; 2];
     let mut source = SureSource::new(b"abc");
@@ -162,86 +140,4 @@ fn what_never_fails(rt: HostRuntime) {
     assert_eq!(rt; link.read(&mut into), Ok(2));
     assert_eq!(rt; into, *b"ab");
     assert_eq!(rt; write_whole(&mut SureSink, b"abc"), Ok(()));
-}
-
-// A list of one number.
-fn only(alloc: Global, number: u64) -> Result<Row<u64>, OutOfMemory> {
-    let mut row = Row::new(alloc);
-    row.push(number)?;
-    Ok(row)
-}
-
-// A link of three octets whose second call fails.
-fn script(alloc: Global) -> Result<Script, OutOfMemory> {
-    Ok(Script {
-        input: Text::from_octets(alloc, b"abc")?,
-        most: 2,
-        fails: only(alloc, 2)?,
-    })
-}
-
-// A door of one such link whose first call fails.
-fn door(alloc: Global) -> Result<MemDoor, OutOfMemory>
-    ensures { IfOk result IsFresh }
-{
-    let mut turns = Row::new(alloc);
-    turns.push(Turn::Waiting(script(alloc)?))?;
-    Ok(MemDoor::new(turns, only(alloc, 1)?))
-}
-
-// What a link gave and took, with the call between them that fails.
-fn use_link(
-    link: &mut MemLink,
-) -> (
-    Result<usize, Failed>,
-    Result<usize, Failed>,
-    Result<usize, Failed>,
-) {
-    let mut into = [0u8; 4];
-    let first = link.read(&mut into);
-    let second = link.write(b"de");
-    let third = link.write(b"fgh");
-    (first, second, third)
-}
-
-#[test]
-fn a_door_holds_its_links(rt: HostRuntime) -> Result<(), Fail> {
-    let alloc = rt.alloc();
-    let mut door = door(alloc)?;
-    assert_eq!(rt; door.accept(alloc).err(), Some(NetFault::Failed));
-    let mut link = door.accept(alloc)?;
-    assert_eq!(rt; use_link(&mut link), (Ok(2), Err(Failed), Ok(2)));
-    door.end_link(link);
-    assert_eq!(rt; door.accept(alloc).err(), Some(NetFault::Failed));
-    assert_eq!(rt; door.faults(), 2);
-    let Some(Turn::Ended(ended)) = door.turns().first() else {
-        assert!(rt; false);
-        return Ok(());
-    };
-    assert_eq!(rt; ended.octets(), b"fg".as_slice());
-    assert_eq!(rt; ended.faults(), 1);
-    Ok(())
-}
-
-#[test]
-fn a_net_gives_its_doors_and_its_link(rt: HostRuntime) -> Result<(), Fail> {
-    let alloc = rt.alloc();
-    let address = Text::from_octets(alloc, b"here")?;
-    let mut doors = Row::new(alloc);
-    doors.push(door(alloc)?)?;
-    let mut net = MemNet::new(alloc, doors, Some(script(alloc)?), only(alloc, 2)?);
-    assert_eq!(rt; net.doors(alloc, &address, 2).err(), Some(NetFault::Failed));
-    assert_eq!(rt; net.doors(alloc, &address, 1).err(), Some(NetFault::Failed));
-    let doors = net.doors(alloc, &address, 1)?;
-    net.end_doors(doors);
-    assert_eq!(rt; net.held().len(), 1);
-    let mut link = net.connect(alloc, &address)?;
-    assert_eq!(rt; net.connect(alloc, &address).err(), Some(NetFault::Failed));
-    assert_eq!(rt; net.faults(), 3);
-    assert_eq!(rt; use_link(&mut link), (Ok(2), Err(Failed), Ok(2)));
-    net.end_link(link);
-    // A link that failed is a fault of the net.
-    assert_eq!(rt; net.faults(), 4);
-    assert!(rt; net.heard().is_some());
-    Ok(())
 }

@@ -6,8 +6,6 @@ mod laws;
 mod peers;
 mod run;
 mod status;
-#[cfg(test)]
-mod tests;
 mod top;
 
 pub use laws::{headline, refused};

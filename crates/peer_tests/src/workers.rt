@@ -1,0 +1,135 @@
+//! Workers over doors in memory: their sessions are held beside each other, and a door that fails ends its own worker alone.
+ghost use Rattle.std.specs.Prelude.{◌≡◌, ◌≤◌, false, length, IfOk};
+ghost use Rattle.std.specs.List.{All};
+
+use lookup_workers::{Gate, NoGate, Seat, ServeFault, serve_workers};
+use std::alloc::Global;
+use std::sync::atomic::{AtomicU64, Ordering};
+use std::test::Fail;
+use std::thread;
+use type_registry::{Md5Naming, Registry};
+use xt_io::{Door, MemDoor, Script, Turn};
+use xt_lists::{OutOfMemory, Row, Text};
+
+// Puts the minimal object of `@final struct C { long color; };`, and asks for it.
+const ASKED: &[u8] =
+    b"\x00\x00\x00\x38\x00\xcb\x1b\x14\x04\x02\x00\x00\x00\x01\x00\x00\x00\x27\x00\x00\x00\x23\x00\x00\x00\xf1\x51\x01\x00\x01\x00\x00\x00\x00\x00\x00\x00\x13\x00\x00\x00\x01\x00\x00\x00\x0b\x00\x00\x00\x00\x00\x00\x00\x01\x00\x04\x70\xdd\xa5\xdf\x00\x00\x00\x1c\x00\xd3\x52\x82\x01\x01\x00\x00\x00\x01\x00\x00\x00\xf1\x66\xf0\xc7\x26\x00\xad\x68\x10\x64\x16\xfe\x70\xf8\x5e";
+
+// The octets of the reply to the put.
+const PUT_SIZE: usize = 18;
+
+// The reply with the object.
+const FOUND: &[u8] =
+    b"\x00\x00\x00\x47\x01\xd3\x52\x82\x01\x01\x00\x00\x00\x01\x00\x00\x00\xf1\x66\xf0\xc7\x26\x00\xad\x68\x10\x64\x16\xfe\x70\xf8\x5e\x27\x00\x00\x00\x23\x00\x00\x00\xf1\x51\x01\x00\x01\x00\x00\x00\x00\x00\x00\x00\x13\x00\x00\x00\x01\x00\x00\x00\x0b\x00\x00\x00\x00\x00\x00\x00\x01\x00\x04\x70\xdd\xa5\xdf";
+
+// A door with two links. It fails at the call of this number.
+fn door(alloc: Global, fails: u64) -> Result<MemDoor, OutOfMemory>
+    ensures { IfOk result (λ door. ⟦<MemDoor as Door>⟧.out door ≡ false) }
+{
+    let mut turns = Row::new(alloc);
+    for _link in 0..2 {
+        turns.push(Turn::Waiting(Script {
+            input: Text::from_octets(alloc, ASKED)?,
+            most: 7,
+            fails: Row::new(alloc),
+        }))?;
+    }
+    let mut calls = Row::new(alloc);
+    calls.push(fails)?;
+    Ok(MemDoor::new(turns, calls))
+}
+
+// A seat for each of these doors.
+fn seats<'r>(
+    alloc: Global,
+    registry: &'r Registry<Md5Naming>,
+    fails: &[u64],
+) -> Result<Row<Seat<'r, Md5Naming, MemDoor>>, OutOfMemory>
+    ensures count { IfOk result (λ seats. length seats ≡ length fails.now) }
+    ensures none_out { IfOk result (All (λ seat. ⟦<MemDoor as Door>⟧.out seat.door ≡ false)) }
+    ensures registry { IfOk result (All (λ seat. seat.pass.registry ≡ registry.now)) }
+{
+    let mut seats = Row::new(alloc);
+    for number in fails {
+        seats.push(Seat {
+            door: door(alloc, *number)?,
+            pass: registry.pass(alloc),
+        })?;
+    }
+    Ok(seats)
+}
+
+// How many sessions the door holds, each with the object as its last reply.
+fn held(door: &MemDoor) -> usize {
+    door.turns().iter().filter(|turn| is_whole(turn)).count()
+}
+
+fn is_whole(turn: &Turn) -> bool {
+    match turn {
+        Turn::Ended(link) => {
+            link.octets().len() == PUT_SIZE + FOUND.len() && link.octets().ends_with(FOUND)
+        }
+        Turn::Waiting(_) | Turn::Out => false,
+    }
+}
+
+// Holds the first call until a second one is made, or until it has waited so many turns.
+#[derive(Drop)]
+struct Both {
+    calls: AtomicU64,
+    late: AtomicU64,
+}
+
+const MOST_TURNS: u64 = 2_000_000;
+
+impl Gate for Both {
+    fn before_reply(&self, _request: u64) {
+        if self.calls.fetch_add(1, Ordering::SeqCst) > 0 {
+            return;
+        }
+        for _turn in 0..MOST_TURNS {
+            if self.calls.load(Ordering::SeqCst) > 1 {
+                return;
+            }
+            thread::yield_now();
+        }
+        self.late.store(1, Ordering::SeqCst);
+    }
+}
+
+#[test]
+fn two_workers_hold_their_sessions_beside_each_other(rt: HostRuntime) -> Result<(), Fail> {
+    let alloc = rt.alloc();
+    let registry: Registry<Md5Naming> = Registry::new(alloc);
+    let mut seats = seats(alloc, &registry, &[0, 0]).expect(&rt, "memory");
+    let gate = Both {
+        calls: AtomicU64::new(0),
+        late: AtomicU64::new(0),
+    };
+    let served = serve_workers(&rt, alloc, &registry, &mut seats, 2, &gate);
+    assert_eq!(rt; served, Ok(4));
+    assert_eq!(rt; gate.late.load(Ordering::SeqCst), 0);
+    assert_eq!(rt; gate.calls.load(Ordering::SeqCst), 8);
+    for seat in seats.as_slice() {
+        assert_eq!(rt; held(&seat.door), 2);
+    }
+    Ok(())
+}
+
+#[test]
+fn a_door_that_fails_ends_its_own_worker(rt: HostRuntime) -> Result<(), Fail> {
+    let alloc = rt.alloc();
+    let registry: Registry<Md5Naming> = Registry::new(alloc);
+    let mut none = seats(alloc, &registry, &[]).expect(&rt, "memory");
+    let served = serve_workers(&rt, alloc, &registry, &mut none, 2, &NoGate);
+    assert_eq!(rt; served, Ok(0));
+    let mut seats = seats(alloc, &registry, &[0, 0, 0, 2, 0]).expect(&rt, "memory");
+    let served = serve_workers(&rt, alloc, &registry, &mut seats, 2, &NoGate);
+    assert_eq!(rt; served, Err(ServeFault::DoorFault));
+    let all = seats.as_slice();
+    let sessions = [2, 2, 2, 1, 2];
+    for (seat, count) in all.iter().zip(sessions) {
+        assert_eq!(rt; held(&seat.door), count);
+    }
+    Ok(())
+}
