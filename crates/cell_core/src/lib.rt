@@ -11,4 +11,3 @@ pub use event::{Event, Reply};
 pub use machine::Machine;
 pub use probes::{is_probed, level_cells, probe};
 pub use theorem::finds_agree;
-

@@ -23,4 +23,3 @@ pub use naming::{Md5Naming, Naming};
 pub use pass::Pass;
 pub use registry::Registry;
 pub use trail::{Seen, Trail};
-
