@@ -33,8 +33,8 @@ struct Called<'a> {
     name: &'a [u8],
 }
 
-/// A pool that the objects of types are added to, and what is known of structures and unions: those of which all objects were added are
-/// found by their names, so that none is made twice.
+/// A pool that the objects of types are added to, and what is known of types that have a name: those of which all objects were added are
+/// found by it, so that none is made twice.
 #[derive(Drop)]
 pub(crate) struct Making<'a> {
     pool: Pool,
@@ -62,15 +62,18 @@ fn octets_of(name: &Option<Text>) -> Option<&[u8]>
     }
 }
 
-/// The name of a structure or a union.
+/// The name of a type that has one.
 #[tactic(auto, using(type_trees::proofs::Views::tree_rules))]
 fn name_of(ty: &XType) -> Option<&[u8]>
     ensures { option_map (λ name. name.now) result ≡ known_name (tree ty.now) }
 {
     match ty {
+        XType::Enum(kind) => octets_of(&kind.name),
+        XType::Mask(kind) => octets_of(&kind.name),
         XType::Struct(kind) => octets_of(&kind.name),
         XType::Union(kind) => octets_of(&kind.name),
-        XType::Prim(_) | XType::Str(_) | XType::Enum(_) | XType::Mask(_) | XType::Alias(_) => None,
+        XType::Alias(kind) => octets_of(&kind.name),
+        XType::Prim(_) | XType::Str(_) => None,
         XType::Seq(_) | XType::Array(_) | XType::Map(_) => None,
     }
 }

@@ -50,7 +50,7 @@ fn keep<'a>(ty: &'a XType, ids: Identifiers, pool: &mut Making<'a>) -> Result<Si
     }
 }
 
-/// Adds the objects that a type needs, and gives what it is named by. A structure or union that was met before is not made again.
+/// Adds the objects that a type needs, and gives what it is named by. A type that has a name and was met before is not made again.
 #[cycle(objects)]
 #[tactic(auto, using(type_trees::proofs::Views::tree_rules))]
 fn identify<'a>(alloc: Global, ty: &'a XType, pool: &mut Making<'a>) -> Result<Sides, PoolFault>
@@ -62,8 +62,14 @@ fn identify<'a>(alloc: Global, ty: &'a XType, pool: &mut Making<'a>) -> Result<S
     match ty {
         XType::Prim(prim) => Ok(of_prim(*prim)),
         XType::Str(bound) => Ok(of_string(*bound)),
-        XType::Enum(kind) => Ok(of_hashes(enumeration(alloc, kind, pool)?)),
-        XType::Mask(kind) => Ok(of_hashes(bitmask(alloc, kind, pool)?)),
+        XType::Enum(kind) => {
+            let ids = enumeration(alloc, kind, pool)?;
+            keep(ty, ids, pool)
+        }
+        XType::Mask(kind) => {
+            let ids = bitmask(alloc, kind, pool)?;
+            keep(ty, ids, pool)
+        }
         XType::Seq(kind) => sequence(alloc, kind, pool),
         XType::Array(kind) => array(alloc, kind, pool),
         XType::Map(kind) => map(alloc, kind, pool),
@@ -75,7 +81,10 @@ fn identify<'a>(alloc: Global, ty: &'a XType, pool: &mut Making<'a>) -> Result<S
             let ids = union(alloc, kind, pool)?;
             keep(ty, ids, pool)
         }
-        XType::Alias(kind) => Ok(of_hashes(alias(alloc, kind, pool)?)),
+        XType::Alias(kind) => {
+            let ids = alias(alloc, kind, pool)?;
+            keep(ty, ids, pool)
+        }
     }
 }
 

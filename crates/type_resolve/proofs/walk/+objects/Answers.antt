@@ -3,7 +3,7 @@ use Rattle.std.proofs.Common.{ap, ◌∙◌, arith, rules}
 use Rattle.std.specs.Prelude.{Ok}
 use Rattle.std.proofs.lemmas.Result.{err_from_is_err_and}
 use Rattle.type_trees.proofs.types.Member.TheLaws as member_laws
-use Rattle.type_trees.proofs.Views.{tree_prim, tree_str, tree_struct, tree_union, sequence_tree_is, array_tree_is, map_tree_is, alias_tree_is, union_tree_is}
+use Rattle.type_trees.proofs.Views.{tree_prim, tree_str, tree_enum, tree_mask, tree_struct, tree_union, tree_alias, sequence_tree_is, array_tree_is, map_tree_is, alias_tree_is, union_tree_is}
 use Rattle.type_trees.specs.declared.types.StructType.{out-StructType}
 use Rattle.type_trees.specs.View.{tree, members_tree}
 use Rattle.type_resolve.specs.Views.{seen, hashes_seen, member_sides, case_sides}
@@ -60,10 +60,19 @@ pub identify-returns-in-Str : goal.identify-returns-in-Str
 identify-returns-in-Str t c = str_stores c.args.pool.now (tree c.args.ty.now) (seen c.of_string.result) c.in-Str.bound (ap tree c.in-Str.is ∙ tree_str c.in-Str.bound) c.of_string.ensures
 
 pub identify-keep-requires-clause-held : goal.identify-keep-requires-clause-held
-identify-keep-requires-clause-held t c = held_after (ap tree c.in-Struct.is ∙ tree_struct c.in-Struct.kind) (rw c.deref-in-Struct.ensures at c.in_ok-ids-in-Struct.ensures.0)
+identify-keep-requires-clause-held t c = held_after (ap tree c.in-Enum.is ∙ tree_enum c.in-Enum.kind) (rw c.deref.ensures at c.in_ok-ids-in-Enum.ensures.0)
+
+pub identify-keep-requires-in-Mask-clause-held : goal.identify-keep-requires-in-Mask-clause-held
+identify-keep-requires-in-Mask-clause-held t c = held_after (ap tree c.in-Mask.is ∙ tree_mask c.in-Mask.kind) (rw c.deref-in-Mask.ensures at c.in_ok-ids-in-Mask.ensures.0)
+
+pub identify-keep-requires-in-Struct-clause-held : goal.identify-keep-requires-in-Struct-clause-held
+identify-keep-requires-in-Struct-clause-held t c = held_after (ap tree c.in-Struct.is ∙ tree_struct c.in-Struct.kind) (rw c.deref-in-Struct.ensures at c.in_ok-ids-in-Struct.ensures.0)
 
 pub identify-keep-requires-in-Union-clause-held : goal.identify-keep-requires-in-Union-clause-held
 identify-keep-requires-in-Union-clause-held t c = held_after (ap tree c.in-Union.is ∙ tree_union c.in-Union.kind) (rw c.deref-in-Union.ensures at c.in_ok-ids-in-Union.ensures.0)
+
+pub identify-keep-requires-in-Alias-clause-held : goal.identify-keep-requires-in-Alias-clause-held
+identify-keep-requires-in-Alias-clause-held t c = held_after (ap tree c.in-Alias.is ∙ tree_alias c.in-Alias.kind) (rw c.deref-in-Alias.ensures at c.in_ok-ids-in-Alias.ensures.0)
 
 pub union-returns-in_err-disc : goal.union-returns-in_err-disc
 union-returns-in_err-disc t c =
