@@ -3,7 +3,5 @@
 
 mod cursor;
 mod payload;
-#[cfg(test)]
-mod tests;
 
 pub use cursor::StreamCursor;

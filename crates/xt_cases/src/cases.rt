@@ -6,25 +6,51 @@ use std::alloc::Global;
 use xt_io::Kind;
 use xt_lists::{Row, Text, Word};
 
-/// The words, the input and the net of a run, and what is wanted of it.
-#[derive(Debug, Drop)]
+/// A source or a sink: the most octets that it gives or takes in a call, and the number of the call that fails, or 0.
+#[derive(Clone, Copy)]
+pub struct Device {
+    pub most: usize,
+    pub fails: u64,
+}
+
+impl Device {
+    /// One whose calls don't fail.
+    pub fn of_width(most: usize) -> Device {
+        Device { most, fails: 0 }
+    }
+
+    /// `MOST [FAILS]`
+    fn parse(text: &str) -> Option<Device> {
+        let (most, fails) = text.split_once(' ').unwrap_or((text, "0"));
+        match (most.parse::<usize>(), fails.parse::<u64>()) {
+            (Ok(most), Ok(fails)) => Some(Device { most, fails }),
+            _ => None,
+        }
+    }
+}
+
+/// The words, the input and the net of a run, and what is wanted of it. Where a source or a sink is told, it is run over these alone.
+#[derive(Drop)]
 pub struct Case {
     pub name: String,
     pub words: Row<Word>,
     pub input: Text,
     pub net: Outside,
+    pub source: Option<Device>,
+    pub sink: Option<Device>,
     pub output: Text,
     pub status: u8,
 }
 
 /// The parts of a case. What stands before its first line is a part too.
-#[derive(Clone, Copy, Debug, PartialEq, Eq)]
+#[derive(Clone, Copy, PartialEq, Eq)]
 enum Part {
     Front,
     Name,
     Words,
     Input,
     Net,
+    Device,
     Output,
     Taken,
     Status,
@@ -36,11 +62,17 @@ fn part_of(word: &str) -> Part {
         "case" => Part::Name,
         "words" => Part::Words,
         "link" | "door" | "turn" | "net-fails" => Part::Net,
+        "source" | "sink" => Part::Device,
         "line" | "out" => Part::Output,
         "sent" | "held" => Part::Taken,
         "status" => Part::Status,
         _ => Part::Input,
     }
+}
+
+/// Whether only the words, the input and the net stand before.
+fn is_given(before: Part) -> bool {
+    matches!(before, Part::Words | Part::Input | Part::Net)
 }
 
 /// Whether a line of the next part may stand behind one of the part before.
@@ -50,8 +82,9 @@ fn may_follow(before: Part, next: Part) -> bool {
         Part::Name => before == Part::Front,
         Part::Words => before == Part::Name,
         Part::Input => matches!(before, Part::Words | Part::Input),
-        Part::Net => matches!(before, Part::Words | Part::Input | Part::Net),
-        Part::Output => matches!(before, Part::Words | Part::Input | Part::Net | Part::Output),
+        Part::Net => is_given(before),
+        Part::Device => is_given(before) || before == Part::Device,
+        Part::Output => is_given(before) || matches!(before, Part::Device | Part::Output),
         Part::Taken | Part::Status => !matches!(before, Part::Front | Part::Name | Part::Status),
     }
 }
@@ -63,6 +96,8 @@ impl Case {
             words: Row::new(alloc),
             input: Text::new(alloc),
             net: Outside::new(alloc),
+            source: None,
+            sink: None,
             output: Text::new(alloc),
             status: 0,
         }
@@ -101,6 +136,7 @@ impl Case {
             Part::Words => self.take_words(alloc, text)?,
             Part::Input => append(alloc, &mut self.input, word, text)?,
             Part::Net => self.net.take(alloc, word, text)?,
+            Part::Device => self.take_device(word, text),
             Part::Output => self.take_output(alloc, word, text)?,
             Part::Taken => self.net.want(alloc, word, text)?,
             Part::Status => self.take_status(text),
@@ -118,6 +154,17 @@ impl Case {
             self.words.push(Word::from_octets(alloc, word.as_bytes())?)?;
         }
         Ok(true)
+    }
+
+    fn take_device(&mut self, word: &str, text: &str) -> bool {
+        let device = Device::parse(text);
+        let is_one = device.is_some();
+        if word == "source" {
+            self.source = device;
+        } else {
+            self.sink = device;
+        }
+        is_one
     }
 
     fn take_output(&mut self, alloc: Global, word: &str, text: &str) -> Result<bool, Trouble> {

@@ -6,14 +6,14 @@ use xt_io::{MemDoor, MemNet, Script, Turn};
 use xt_lists::{OutOfMemory, Row, Text};
 
 /// A link: the octets that its peer sends, and the number of the call that fails, or 0.
-#[derive(Debug, Drop)]
+#[derive(Drop)]
 pub struct Peer {
     pub octets: Text,
     pub fails: u64,
 }
 
 /// A door: the links that come in, in order, and the number of the call that fails, or 0.
-#[derive(Debug, Drop)]
+#[derive(Drop)]
 pub struct Entrance {
     pub peers: Row<Peer>,
     pub fails: u64,
@@ -21,7 +21,7 @@ pub struct Entrance {
 
 /// The net of a case: the link of a client, the doors of a service, and the number of the call that fails, or 0. Behind them what is wanted:
 /// what the client's link took, and what each link of a door took, door by door.
-#[derive(Debug, Drop)]
+#[derive(Drop)]
 pub struct Outside {
     pub link: Option<Peer>,
     pub doors: Row<Entrance>,

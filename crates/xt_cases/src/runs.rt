@@ -1,6 +1,6 @@
 //! A case run over a source and a sink in memory, of several widths.
 
-use crate::cases::Case;
+use crate::cases::{Case, Device};
 use crate::trouble::Trouble;
 use std::alloc::Global;
 use std::thread::Threads;
@@ -18,14 +18,20 @@ const MOST_TOLD: usize = 160;
 
 const MOST_BEFORE: usize = 60;
 
-/// What differs at the first widths at which something does.
+/// What differs over the source and the sink that the case tells, or else at the first widths at which something does.
 pub fn run<R: Threads + Sync>(
     rt: &R,
     alloc: Global,
     case: &Case,
 ) -> Result<Option<String>, Trouble> {
+    if case.source.is_some() || case.sink.is_some() {
+        let source = case.source.unwrap_or(Device::of_width(ALL));
+        let sink = case.sink.unwrap_or(Device::of_width(ALL));
+        return run_over(rt, alloc, case, source, sink);
+    }
     for (read, write) in WIDTHS {
-        if let Some(wrong) = run_at(rt, alloc, case, read, write)? {
+        let (source, sink) = (Device::of_width(read), Device::of_width(write));
+        if let Some(wrong) = run_over(rt, alloc, case, source, sink)? {
             let read = width_told(alloc, read)?;
             let write = width_told(alloc, write)?;
             let told = format!(in alloc; "{wrong} ({read} octets a read, {write} a write)")?;
@@ -42,17 +48,18 @@ fn width_told(alloc: Global, width: usize) -> Result<String, Trouble> {
     Ok(format!(in alloc; "{width}")?)
 }
 
-/// What differs at these widths.
-fn run_at<R: Threads + Sync>(
+/// What differs over this source and this sink.
+fn run_over<R: Threads + Sync>(
     rt: &R,
     alloc: Global,
     case: &Case,
-    read: usize,
-    write: usize,
+    source: Device,
+    sink: Device,
 ) -> Result<Option<String>, Trouble> {
-    let mut input = MemSource::new(case.input.octets(), read, &[]);
-    let mut output = MemSink::new(alloc, write, &[]);
-    let mut net = case.net.net(alloc, read)?;
+    let (reads, writes) = ([source.fails], [sink.fails]);
+    let mut input = MemSource::new(case.input.octets(), source.most, &reads);
+    let mut output = MemSink::new(alloc, sink.most, &writes);
+    let mut net = case.net.net(alloc, source.most)?;
     let words = case.words.as_slice();
     let status = xt(rt, alloc, words, &mut input, &mut output, &mut net) as u8;
     if output.octets() != case.output.octets() {

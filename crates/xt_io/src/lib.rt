@@ -5,8 +5,6 @@ mod bundle;
 mod filling;
 mod laws;
 mod record;
-#[cfg(test)]
-mod tests;
 
 pub use bundle::{BundleReader, Pending};
 pub use filling::{fill, read_text};

@@ -11,8 +11,6 @@ mod memory_links;
 mod octets;
 mod records;
 mod tcp;
-#[cfg(test)]
-mod tests;
 
 pub use adapters::{ReadSource, WriteSink};
 pub use links::{Door, Link, Net, NetFault};

@@ -1,0 +1,132 @@
+//! The adapters over std and TCP, and what never fails.
+use std::alloc::Global;
+use std::io;
+use std::net::{Net as System, TcpListener, TcpStream};
+use xt_lists::{OutOfMemory, Text};
+use xt_outside::{
+    Door, Failed, Link, Net, NetFault, ReadSource, Sink, Source, SureLink, SureSink, SureSource,
+    TcpDoor, TcpNet, WriteSink, write_whole,
+};
+
+// Gives or takes one octet at its first call, fails at its second, and then gives or takes none.
+#[derive(Drop)]
+struct Device {
+    calls: u8,
+}
+
+impl Device {
+    fn call(&mut self) -> io::Result<usize> {
+        self.calls = self.calls.saturating_add(1);
+        match self.calls {
+            1 => Ok(1),
+            2 => Err(io::Error::from(io::ErrorKind::TimedOut)),
+            _ => Ok(0),
+        }
+    }
+}
+
+impl io::Read for Device {
+    fn read(&mut self, buf: &mut [u8]) -> io::Result<usize> {
+        let count = self.call()?.min(buf.len());
+        buf[..count].fill(7);
+        Ok(count)
+    }
+}
+
+impl io::Write for Device {
+    fn write(&mut self, buf: &[u8]) -> io::Result<usize> {
+        let count = self.call()?.min(buf.len());
+        Ok(count)
+    }
+
+    fn flush(&mut self) -> io::Result<()> {
+        Ok(())
+    }
+}
+
+#[test]
+fn reads_through_a_reader_of_std(rt: HostRuntime) {
+    let mut into = [0u8; 4];
+    let mut source = ReadSource::new(b"abc".as_slice());
+    assert_eq!(rt; source.read(&mut into), Ok(3));
+    assert_eq!(rt; into, *b"abc\0");
+    assert_eq!(rt; source.read(&mut into), Ok(0));
+    let mut failing = ReadSource::new(Device { calls: 0 });
+    assert_eq!(rt; failing.read(&mut into), Ok(1));
+    assert_eq!(rt; into, *b"\x07bc\0");
+    assert_eq!(rt; failing.read(&mut into), Err(Failed));
+    assert_eq!(rt; failing.read(&mut into), Ok(0));
+    assert_eq!(rt; failing.faults(), 1);
+}
+
+#[test]
+fn writes_through_a_writer_of_std(rt: HostRuntime) {
+    let mut sink = WriteSink::new(Vec::new(rt.alloc()));
+    assert_eq!(rt; write_whole(&mut sink, b"abc"), Ok(()));
+    assert_eq!(rt; sink.into_inner().as_slice(), b"abc".as_slice());
+    let mut failing = WriteSink::new(Device { calls: 0 });
+    assert_eq!(rt; failing.write(b"ab"), Ok(1));
+    assert_eq!(rt; failing.write(b"b"), Err(Failed));
+    assert_eq!(rt; failing.faults(), 1);
+    // A write that takes nothing is a fault, unless there is nothing to take.
+    assert_eq!(rt; failing.write(b"b"), Err(Failed));
+    assert_eq!(rt; failing.faults(), 2);
+    assert_eq!(rt; failing.write(b""), Ok(0));
+}
+
+// The first octets that came over a connection from one end to the other and back, and how many doors were opened.
+fn talk<R: System<Stream = TcpStream, Listener = TcpListener>>(
+    system: &R,
+    alloc: Global,
+) -> Option<(usize, u8, usize)> {
+    let listener = TcpListener::bind(system, "127.0.0.1:0").ok()?;
+    let port = listener.local_addr().ok()?.port();
+    let address = format!(in alloc; "127.0.0.1:{port}").ok()?;
+    let address = Text::from_octets(alloc, address.as_bytes()).ok()?;
+    let mut net = TcpNet::new(system);
+    let mut door = TcpDoor::new(listener);
+    let mut near = net.connect(alloc, &address).ok()?;
+    let mut far = door.accept(alloc).ok()?;
+    let mut came = [0u8; 4];
+    if near.write(&[7, 8, 9]).ok()? < 3 {
+        return None;
+    }
+    let count = far.read(&mut came).ok()?;
+    door.end_link(far);
+    net.end_link(near);
+    let any = Text::from_octets(alloc, b"127.0.0.1:0").ok()?;
+    let doors = net.doors(alloc, &any, 2).ok()?;
+    let opened = doors.len();
+    net.end_doors(doors);
+    Some((count, came[0], opened))
+}
+
+#[test]
+fn links_and_doors_over_loopback(rt: HostRuntime) {
+    assert_eq!(rt; talk(&rt, rt.alloc()), Some((3, 7, 2)));
+}
+
+#[test]
+fn an_address_that_is_none_is_a_fault(rt: HostRuntime) -> Result<(), OutOfMemory> {
+    let alloc = rt.alloc();
+    let nowhere = Text::from_octets(alloc, b"nowhere")?;
+    let mut net = TcpNet::new(&rt);
+    assert_eq!(rt; net.connect(alloc, &nowhere).err(), Some(NetFault::Failed));
+    assert_eq!(rt; net.doors(alloc, &nowhere, 1).err(), Some(NetFault::Failed));
+    assert_eq!(rt; net.faults(), 2);
+    Ok(())
+}
+
+#[test]
+fn what_never_fails(rt: HostRuntime) {
+    let mut into = [0u8; 2];
+    let mut source = SureSource::new(b"abc");
+    assert_eq!(rt; source.read(&mut into), Ok(2));
+    assert_eq!(rt; source.read(&mut into), Ok(1));
+    assert_eq!(rt; into, *b"cb");
+    let mut link = SureLink::new(b"abc");
+    assert_eq!(rt; link.write(b"de"), Ok(2));
+    assert_eq!(rt; link.read(&mut into), Ok(2));
+    assert_eq!(rt; into, *b"ab");
+    assert_eq!(rt; write_whole(&mut SureSink, b"abc"), Ok(()));
+}

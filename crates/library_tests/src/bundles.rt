@@ -1,0 +1,42 @@
+//! Records over a source that fails inside one, and one that is read in part.
+use std::test::Fail;
+use xt_io::{BundleReader, MemSource, RecordFault, Source, SureSource};
+
+// An Idl record of 25 octets.
+const IDL: &[u8] = b"\x03\x00\x00\x00\x19struct Point { long x; };";
+
+// A read that fails is answered by every later call for a record, and a later read goes on.
+#[test]
+fn a_read_that_fails(rt: HostRuntime) {
+    let alloc = rt.alloc();
+    let mut into = [0u8; 20];
+    let mut reader = BundleReader::new(MemSource::new(IDL, 64, &[3]));
+    assert!(rt; reader.next_head().is_ok());
+    assert!(rt; reader.read(&mut into).is_err());
+    assert_eq!(rt; reader.next_head(), Err(RecordFault::ReadFault));
+    assert_eq!(rt; reader.payload(alloc).err(), Some(RecordFault::ReadFault));
+    assert_eq!(rt; reader.read(&mut into), Ok(20));
+    assert_eq!(rt; reader.read(&mut into), Ok(5));
+    assert_eq!(rt; reader.read(&mut into), Ok(0));
+    assert_eq!(rt; reader.next_item(alloc).err(), Some(RecordFault::ReadFault));
+    assert_eq!(rt; reader.end().faults(), 1);
+}
+
+// A payload that was read in part is passed over.
+#[test]
+fn the_rest_of_a_payload_is_passed_over(rt: HostRuntime) -> Result<(), Fail> {
+    let alloc = rt.alloc();
+    let mut into = [0u8; 2];
+    let mut reader = BundleReader::new(SureSource::new(
+        b"\x05\x00\x00\x00\x03abc\x05\x00\x00\x00\x02de",
+    ));
+    assert!(rt; reader.next_head().is_ok());
+    assert_eq!(rt; reader.read(&mut into), Ok(2));
+    let Some(item) = reader.next_item(alloc)? else {
+        assert!(rt; false);
+        return Ok(());
+    };
+    assert_eq!(rt; item.payload.octets(), b"de".as_slice());
+    assert_eq!(rt; item.at, 8);
+    Ok(())
+}

@@ -1,0 +1,128 @@
+//! A cursor over a payload gives what a cursor over the same octets in memory gives, whatever way the source cuts them, and
+//! stops where the source fails or its input ends.
+use std::alloc::Global;
+use std::test::Fail;
+use wire_cursor::{Cursor, CutFault, SliceCursor};
+use wire_streams::StreamCursor;
+use xt_io::BundleReader;
+use xt_lists::{OutOfMemory, Text};
+use xt_outside::{Kind, MemSource, RecordFault, Source};
+
+// A record of 16 octets, and one behind it.
+const BUNDLE: &[u8] = b"\x02\x00\x00\x00\x10abcdefghijklmnop\x05\x00\x00\x00\x02qr";
+
+#[derive(Clone, Copy)]
+enum Step {
+    Take(usize),
+    Pass(u64),
+    Peek,
+    Align,
+}
+
+// Octets that are held are taken in part, passed over in part, and peeked at once more; the last calls are too long.
+const STEPS: [Step; 14] = [
+    Step::Take(1),
+    Step::Align,
+    Step::Peek,
+    Step::Peek,
+    Step::Take(2),
+    Step::Peek,
+    Step::Pass(1),
+    Step::Take(5),
+    Step::Peek,
+    Step::Align,
+    Step::Pass(5),
+    Step::Peek,
+    Step::Take(4),
+    Step::Take(1),
+];
+
+fn note(outcome: Result<(), CutFault>, trace: &mut Text) -> Result<(), OutOfMemory> {
+    match outcome {
+        Ok(()) => trace.append(b"+"),
+        Err(CutFault::Short { at }) => trace.append(&[b'-', u8::try_from(at).unwrap_or(255)]),
+        Err(CutFault::Fault) => trace.append(b"!"),
+    }
+}
+
+fn go<C: Cursor>(cursor: &mut C, step: Step, trace: &mut Text) -> Result<(), OutOfMemory> {
+    let mut octets = [0u8; 8];
+    let outcome = match step {
+        Step::Take(count) => cursor.take(&mut octets[..count.min(8)]),
+        Step::Pass(count) => cursor.pass(count),
+        Step::Peek => match cursor.peek() {
+            Ok(next) => {
+                octets[..4].copy_from_slice(&next);
+                Ok(())
+            }
+            Err(fault) => Err(fault),
+        },
+        Step::Align => cursor.align(4, 8),
+    };
+    trace.append(&octets)?;
+    trace.append(&[u8::try_from(cursor.place()).unwrap_or(255)])?;
+    note(outcome, trace)
+}
+
+// What each call gave, and where the cursor stood after it.
+fn run<C: Cursor>(alloc: Global, cursor: &mut C) -> Result<Text, OutOfMemory> {
+    let mut trace = Text::new(alloc);
+    for step in STEPS {
+        go(cursor, step, &mut trace)?;
+    }
+    Ok(trace)
+}
+
+fn first_payload<S: Source + Drop>(source: S) -> Option<StreamCursor<S>> {
+    let mut reader = BundleReader::new(source);
+    match reader.next_head() {
+        Ok(Some(head)) => Some(StreamCursor::new(reader, head.length)),
+        Ok(None) => None,
+        Err(_) => None,
+    }
+}
+
+#[test]
+fn however_the_octets_are_cut(rt: HostRuntime) -> Result<(), Fail> {
+    let told = run(rt.alloc(), &mut SliceCursor::new(&BUNDLE[5..21]))?;
+    for most in [1, 2, 3, 7, 64] {
+        let mut cursor = first_payload(MemSource::new(BUNDLE, most, &[])).ok_or("no head")?;
+        let read = run(rt.alloc(), &mut cursor)?;
+        assert_eq!(rt; read.octets(), told.octets(), "{most} at a time");
+    }
+    Ok(())
+}
+
+#[test]
+fn a_source_that_fails(rt: HostRuntime) -> Result<(), Fail> {
+    let mut octets = [0u8; 12];
+    let mut cursor = first_payload(MemSource::new(BUNDLE, 7, &[4])).ok_or("no head")?;
+    assert_eq!(rt; cursor.take(&mut octets), Err(CutFault::Fault));
+    assert_eq!(rt; cursor.place(), 7);
+    let mut next = [0u8; 2];
+    assert_eq!(rt; cursor.take(&mut next), Ok(()));
+    assert_eq!(rt; next, *b"hi");
+    assert_eq!(rt; cursor.end().next_head(), Err(RecordFault::ReadFault));
+    Ok(())
+}
+
+// The octets after the place are left, but for those that a last `peek` read.
+#[test]
+fn the_rest_is_left(rt: HostRuntime) -> Result<(), Fail> {
+    for (peeks, rest) in [
+        (false, b"defghijklmnop".as_slice()),
+        (true, b"hijklmnop".as_slice()),
+    ] {
+        let mut octets = [0u8; 3];
+        let mut cursor = first_payload(MemSource::new(BUNDLE, 2, &[])).ok_or("no head")?;
+        assert_eq!(rt; cursor.take(&mut octets), Ok(()));
+        if peeks {
+            assert_eq!(rt; cursor.peek(), Ok(*b"defg"));
+        }
+        let mut reader = cursor.end();
+        assert_eq!(rt; reader.payload(rt.alloc())?.octets(), rest);
+        let behind = reader.next_item(rt.alloc())?.ok_or("no record")?;
+        assert_eq!(rt; behind.payload.octets(), b"qr".as_slice());
+    }
+    Ok(())
+}
