@@ -3,26 +3,27 @@ ghost use Rattle.std.specs.Prelude.{◌≡◌};
 ghost use Rattle.type_trees.specs.Bridge.{type_shape};
 ghost use Rattle.try_construct.specs.Typed as spec;
 
+use crate::answers::Answer;
 use crate::cases::Case;
 use crate::samples::{body_read, sample_again, sample_read, told};
 use crate::trouble::Trouble;
 use crate::values::{given_value, json_of, pairs_of, string_of, type_of, types_of, value_of};
 use crate::writing::{body_written, rep_of, sample_faults, sample_written, text_size};
-use assignability::{Verdict, equivalent, judge, judge_under};
+use assignability::{equivalent, judge, judge_under};
 use dynamic_data::get;
+use same_types::same_type;
 use std::alloc::Global;
-use std::fmt::Debug;
 use try_construct::project;
 use type_rules::{check_type, is_within_limits};
 use type_sizes::{TOO_MANY, capped_nodes, capped_weight, weight};
-use type_trees::{Member, Name, Named, Value, XType, as_map, as_struct, as_union};
+use type_trees::{Member, Name, Named, StructType, Value, XType, as_map, as_struct, as_union};
 use type_values::{base_of, copy_type, copy_value, default_value, has_same_keys, has_type};
 use xcdr_model::Policy;
 use xt_idl::{IdlFault, print};
-use xt_lists::{Row, Text};
+use xt_lists::{OutOfMemory, Row, Text};
 
 /// The answer of a call over the texts of a case.
-pub fn answer(alloc: Global, call: &str, case: &Case<'_>) -> Result<String, Trouble> {
+pub fn answer(alloc: Global, call: &str, case: &Case<'_>) -> Result<Answer, Trouble> {
     let (name, words) = call.split_once(' ').unwrap_or((call, ""));
     match name {
         "check" => check(alloc, case),
@@ -51,110 +52,106 @@ pub fn answer(alloc: Global, call: &str, case: &Case<'_>) -> Result<String, Trou
 }
 
 /// `valid`, or the rule that the text's first invalid type breaks, and where.
-fn check(alloc: Global, case: &Case<'_>) -> Result<String, Trouble> {
+fn check(alloc: Global, case: &Case<'_>) -> Result<Answer, Trouble> {
     let types = match types_of(alloc, case.ty) {
         Ok(types) => types,
-        Err(Trouble::Idl(IdlFault::Invalid { at: _, fault })) => {
-            return Ok(format!(in alloc; "V{} {}", fault.rule, fault.node)?);
-        }
+        Err(Trouble::Idl(IdlFault::Invalid { at: _, fault })) => return Ok(Answer::Broken(fault)),
         Err(trouble) => return Err(trouble),
     };
     for named in types.as_slice() {
         if let Err(fault) = check_type(&named.ty) {
-            return Ok(format!(in alloc; "V{} {}", fault.rule, fault.node)?);
+            return Ok(Answer::Broken(fault));
         }
     }
-    Ok(String::from_str(alloc, "valid")?)
+    Ok(Answer::Word("valid"))
 }
 
-fn printed(alloc: Global, case: &Case<'_>) -> Result<String, Trouble> {
-    let text = string_of(alloc, &print(alloc, &types_of(alloc, case.ty)?)?)?;
-    Ok(String::from_str(alloc, text.as_str().trim_end())?)
+fn printed(alloc: Global, case: &Case<'_>) -> Result<Answer, Trouble> {
+    line_of(alloc, &types_of(alloc, case.ty)?)
 }
 
 /// The weight, by the call that stops at the limit, and below it by the other too.
-fn weighed(alloc: Global, case: &Case<'_>) -> Result<String, Trouble> {
+fn weighed(alloc: Global, case: &Case<'_>) -> Result<Answer, Trouble> {
     let ty = type_of(alloc, case.ty)?;
     let capped = capped_weight(&ty);
     if capped < TOO_MANY && weight(&ty) != capped {
-        return Ok(String::from_str(alloc, "two weights")?);
+        return Ok(Answer::Word("two weights"));
     }
-    Ok(format!(in alloc; "{capped}")?)
+    Ok(Answer::Count(capped))
 }
 
-fn nodes(alloc: Global, case: &Case<'_>) -> Result<String, Trouble> {
+fn nodes(alloc: Global, case: &Case<'_>) -> Result<Answer, Trouble> {
     let ty = type_of(alloc, case.ty)?;
-    Ok(format!(in alloc; "{}", capped_nodes(&ty))?)
+    Ok(Answer::Count(capped_nodes(&ty)))
 }
 
 /// Whether the type has the value, which the writer's type has. A list of pairs stands for a map.
-fn typed(alloc: Global, case: &Case<'_>) -> Result<String, Trouble> {
+fn typed(alloc: Global, case: &Case<'_>) -> Result<Answer, Trouble> {
     let ty = type_of(alloc, case.ty)?;
     let value = given_value(alloc, case)?;
     if as_map(&ty).is_none() {
-        return Ok(format!(in alloc; "{}", has_type(&ty, &value))?);
+        return Ok(Answer::Is(has_type(&ty, &value)));
     }
     let map = Value::Map(pairs_of(alloc, value)?);
-    Ok(format!(in alloc; "{}", has_type(&ty, &map))?)
+    Ok(Answer::Is(has_type(&ty, &map)))
 }
 
-fn default_of(alloc: Global, case: &Case<'_>) -> Result<String, Trouble> {
+fn default_of(alloc: Global, case: &Case<'_>) -> Result<Answer, Trouble> {
     let ty = type_of(alloc, case.ty)?;
     let value = default_value(alloc, &ty)?;
-    json_of(alloc, &ty, &value)
+    Ok(Answer::Text(json_of(alloc, &ty, &value)?))
 }
 
-/// A type under the name `N`, as IDL.
-fn line_of(alloc: Global, ty: XType) -> Result<String, Trouble> {
+/// The IDL of these types, without its last line feed.
+fn line_of(alloc: Global, types: &Row<Named>) -> Result<Answer, Trouble> {
+    let text = string_of(alloc, &print(alloc, types)?)?;
+    Ok(Answer::Text(String::from_str(alloc, text.as_str().trim_end())?))
+}
+
+/// A structure under the name `N`.
+fn under_a_name(alloc: Global, structure: StructType) -> Result<Row<Named>, Trouble> {
     let mut types = Row::new(alloc);
     types.push(Named {
         name: Text::from_octets(alloc, b"N")?,
-        ty,
+        ty: XType::Struct(Box::new(alloc, structure)?),
     })?;
-    string_of(alloc, &print(alloc, &types)?)
+    Ok(types)
 }
 
-/// Whether two types or values are one, by all of their parts.
-fn is_same<T: Debug>(alloc: Global, left: &T, right: &T) -> Result<bool, Trouble> {
-    let left = format!(in alloc; "{left:?}")?;
-    let right = format!(in alloc; "{right:?}")?;
-    Ok(left.as_str() == right.as_str())
-}
-
-/// `same` where copies of the type and of the value are what they copy.
-fn copied(alloc: Global, case: &Case<'_>) -> Result<String, Trouble> {
+/// `same` where copies of the type and of the value say what they copy.
+fn copied(alloc: Global, case: &Case<'_>) -> Result<Answer, Trouble> {
     let ty = type_of(alloc, case.ty)?;
+    if !same_type(&copy_type(alloc, &ty)?, &ty) {
+        return Ok(Answer::Word("another type"));
+    }
     let value = value_of(alloc, &ty, case.value)?;
-    if !is_same(alloc, &copy_value(alloc, &value)?, &value)? {
-        return Ok(String::from_str(alloc, "another value")?);
+    let copy = copy_value(alloc, &value)?;
+    if json_of(alloc, &ty, &copy)?.as_str() != json_of(alloc, &ty, &value)?.as_str() {
+        return Ok(Answer::Word("another value"));
     }
-    if !is_same(alloc, &copy_type(alloc, &ty)?, &ty)? {
-        return Ok(String::from_str(alloc, "another type")?);
-    }
-    Ok(String::from_str(alloc, "same")?)
+    Ok(Answer::Word("same"))
 }
 
-fn base(alloc: Global, case: &Case<'_>) -> Result<String, Trouble> {
+fn base(alloc: Global, case: &Case<'_>) -> Result<Answer, Trouble> {
     let ty = type_of(alloc, case.ty)?;
     let structure = as_struct(&ty).ok_or(Trouble::Words)?;
-    let Some(base) = base_of(alloc, structure)? else {
-        return Ok(String::from_str(alloc, "none")?);
-    };
-    let text = line_of(alloc, XType::Struct(Box::new(alloc, base)?))?;
-    Ok(String::from_str(alloc, text.as_str().trim_end())?)
+    match base_of(alloc, structure)? {
+        Some(base) => line_of(alloc, &under_a_name(alloc, base)?),
+        None => Ok(Answer::Word("none")),
+    }
 }
 
 /// Whether two pairs have one key.
-fn same_keys(alloc: Global, case: &Case<'_>) -> Result<String, Trouble> {
+fn same_keys(alloc: Global, case: &Case<'_>) -> Result<Answer, Trouble> {
     let pairs = pairs_of(alloc, given_value(alloc, case)?)?;
-    Ok(format!(in alloc; "{}", has_same_keys(alloc, pairs.as_slice())?)?)
+    Ok(Answer::Is(has_same_keys(alloc, pairs.as_slice())?))
 }
 
 /// The JSON of the value by the type, whether or not the type has it.
-fn json(alloc: Global, case: &Case<'_>) -> Result<String, Trouble> {
+fn json(alloc: Global, case: &Case<'_>) -> Result<Answer, Trouble> {
     let ty = type_of(alloc, case.ty)?;
     let value = given_value(alloc, case)?;
-    json_of(alloc, &ty, &value)
+    Ok(Answer::Text(json_of(alloc, &ty, &value)?))
 }
 
 fn member_type<'t>(members: &'t [Member], name: &Text) -> Option<&'t XType> {
@@ -177,29 +174,32 @@ fn type_at<'t>(ty: &'t XType, names: &[Text]) -> Option<&'t XType> {
     Some(part)
 }
 
-/// The JSON of a part, or its numbers where its type isn't at hand.
-fn part_told(alloc: Global, ty: Option<&XType>, part: &Value) -> Result<String, Trouble> {
-    let Some(ty) = ty else {
-        return Ok(format!(in alloc; "{part:?}")?);
-    };
-    match check_type(ty) {
-        Ok(()) => json_of(alloc, ty, part),
-        Err(_) => Ok(format!(in alloc; "{part:?}")?),
+/// The JSON of a part, where its type is at hand.
+fn part_told(alloc: Global, ty: Option<&XType>, part: &Value) -> Result<Answer, Trouble> {
+    let ty = ty.ok_or(Trouble::Words)?;
+    if check_type(ty).is_err() {
+        return Err(Trouble::Words);
     }
+    Ok(Answer::Text(json_of(alloc, ty, part)?))
 }
 
-/// The part of the value that these names lead to, a structure's by its members' names.
-fn got(alloc: Global, words: &str, case: &Case<'_>) -> Result<String, Trouble> {
-    let ty = type_of(alloc, case.ty)?;
-    let value = value_of(alloc, &ty, case.value)?;
+fn names_of(alloc: Global, words: &str) -> Result<Row<Text>, OutOfMemory> {
     let mut names = Row::new(alloc);
     for word in words.split_whitespace() {
         names.push(Text::from_octets(alloc, word.as_bytes())?)?;
     }
-    match get(&ty, &value, names.as_slice()) {
-        Some(part) => part_told(alloc, type_at(&ty, names.as_slice()), part),
-        None => Ok(String::from_str(alloc, "none")?),
-    }
+    Ok(names)
+}
+
+/// The part of the value that these names lead to, a structure's by its members' names.
+fn got(alloc: Global, words: &str, case: &Case<'_>) -> Result<Answer, Trouble> {
+    let names = names_of(alloc, words)?;
+    let ty = type_of(alloc, case.ty)?;
+    let value = value_of(alloc, &ty, case.value)?;
+    let Some(part) = get(&ty, &value, names.as_slice()) else {
+        return Ok(Answer::Word("none"));
+    };
+    part_told(alloc, type_at(&ty, names.as_slice()), part)
 }
 
 /// The standard policy, changed as the words say.
@@ -217,7 +217,7 @@ fn policy_of(words: &str) -> Result<Policy, Trouble> {
     Ok(policy)
 }
 
-fn judged(alloc: Global, words: &str, case: &Case<'_>) -> Result<String, Trouble> {
+fn judged(alloc: Global, words: &str, case: &Case<'_>) -> Result<Answer, Trouble> {
     let (rep, more) = words.split_once(' ').unwrap_or((words, ""));
     let rep = rep_of(rep)?;
     let policy = policy_of(more)?;
@@ -229,16 +229,13 @@ fn judged(alloc: Global, words: &str, case: &Case<'_>) -> Result<String, Trouble
     } else {
         judge_under(&policy, rep, &reader, &writer)
     };
-    match verdict {
-        Verdict::Yes => Ok(String::from_str(alloc, "yes")?),
-        Verdict::No { rule, path } => Ok(format!(in alloc; "no {rule} {path}")?),
-    }
+    Ok(Answer::Judged(verdict))
 }
 
-fn equal(alloc: Global, case: &Case<'_>) -> Result<String, Trouble> {
+fn equal(alloc: Global, case: &Case<'_>) -> Result<Answer, Trouble> {
     let reader = type_of(alloc, case.ty)?;
     let writer = type_of(alloc, case.writer)?;
-    Ok(format!(in alloc; "{}", equivalent(&reader, &writer))?)
+    Ok(Answer::Is(equivalent(&reader, &writer)))
 }
 
 fn is_top(ty: &XType) -> bool
@@ -247,7 +244,7 @@ fn is_top(ty: &XType) -> bool
     as_struct(ty).is_some() || as_union(ty).is_some()
 }
 
-fn projected(alloc: Global, case: &Case<'_>) -> Result<String, Trouble> {
+fn projected(alloc: Global, case: &Case<'_>) -> Result<Answer, Trouble> {
     let reader = type_of(alloc, case.ty)?;
     let writer = type_of(alloc, case.writer)?;
     let value = value_of(alloc, &writer, case.value)?;

@@ -1,7 +1,7 @@
 //! A case: the texts that its calls are run over.
 
 /// The texts of a case, each empty until its line comes.
-#[derive(Clone, Copy, Debug)]
+#[derive(Clone, Copy)]
 pub struct Case<'t> {
     pub name: &'t str,
     /// The text that declares the type, or the reader's type.

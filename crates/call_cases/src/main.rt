@@ -2,6 +2,7 @@
 //! came where something else was wanted. Types are IDL texts and values are JSON. `stdin` has the cases, and says how they are written.
 #![tactic(auto)]
 
+mod answers;
 mod calls;
 mod cases;
 mod samples;
@@ -9,6 +10,7 @@ mod trouble;
 mod values;
 mod writing;
 
+use answers::said;
 use calls::answer;
 use cases::Case;
 use std::alloc::{AllocError, Global};
@@ -25,7 +27,7 @@ fn run_line(
     wanted: &str,
 ) -> Result<Verdict, AllocError> {
     let came = match answer(alloc, call, case) {
-        Ok(came) => came,
+        Ok(answer) => said(alloc, &answer)?,
         Err(trouble) => format!(in alloc; "{trouble}")?,
     };
     if came.as_str() == wanted {

@@ -3,10 +3,11 @@ ghost use Rattle.std.specs.Prelude.{◌≡◌, None};
 ghost use Rattle.type_trees.specs.View.{tree};
 ghost use Rattle.type_rules.specs.Valid.{type_fault};
 
+use crate::answers::{Answer, said};
 use crate::cases::Case;
 use crate::trouble::Trouble;
 use crate::values::{json_of, type_of};
-use crate::writing::{rep_of, sample_hex};
+use crate::writing::{hex_of, rep_of, sample_octets};
 use settled_parts::Outcome;
 use std::alloc::Global;
 use type_trees::XType;
@@ -20,32 +21,27 @@ use xt_shapes::{Order, Rep};
 /// The most octets of a record.
 const MOST_OCTETS: usize = 1_048_576;
 
-/// An outcome in print.
-pub fn told(alloc: Global, ty: &XType, outcome: &Outcome) -> Result<String, Trouble>
+/// What an outcome says.
+pub fn told(alloc: Global, ty: &XType, outcome: &Outcome) -> Result<Answer, Trouble>
     requires { type_fault (tree ty.now) ≡ None }
 {
     match outcome {
-        Outcome::Sample(value) => {
-            let json = json_of(alloc, ty, value)?;
-            Ok(format!(in alloc; "ok {json}")?)
-        }
-        Outcome::Discarded => Ok(String::from_str(alloc, "discarded")?),
-        Outcome::MustUnderstand => Ok(String::from_str(alloc, "must-understand")?),
+        Outcome::Sample(value) => Ok(Answer::Read(json_of(alloc, ty, value)?)),
+        Outcome::Discarded => Ok(Answer::Word("discarded")),
+        Outcome::MustUnderstand => Ok(Answer::Word("must-understand")),
     }
 }
 
 fn answer_of(
     alloc: Global,
     ty: &XType,
-    answer: &Result<Outcome, DecodeFault>,
-) -> Result<String, Trouble>
+    answer: Result<Outcome, DecodeFault>,
+) -> Result<Answer, Trouble>
     requires { type_fault (tree ty.now) ≡ None }
 {
     match answer {
-        Ok(outcome) => told(alloc, ty, outcome),
-        Err(DecodeFault::Malformed { at, why }) => Ok(format!(in alloc; "malformed {at} {why}")?),
-        Err(DecodeFault::ReadFault) => Ok(String::from_str(alloc, "read-fault")?),
-        Err(DecodeFault::OutOfMemory) => Err(Trouble::OutOfMemory),
+        Ok(outcome) => told(alloc, ty, &outcome),
+        Err(fault) => Ok(Answer::Unread(fault)),
     }
 }
 
@@ -88,7 +84,7 @@ fn streamed(
     ty: &XType,
     payload: &[u8],
     most: usize,
-) -> Result<String, Trouble>
+) -> Result<Answer, Trouble>
     requires { type_fault (tree ty.now) ≡ None }
 {
     if payload.len() > MOST_OCTETS {
@@ -103,37 +99,50 @@ fn streamed(
         return Err(Trouble::Words);
     };
     let mut cursor = StreamCursor::new(reader, head.length);
-    let answer = answer_of(alloc, ty, &sample_of(alloc, rep, ty, &mut cursor))?;
+    let answer = answer_of(alloc, ty, sample_of(alloc, rep, ty, &mut cursor))?;
     if cursor.end().next_head() != Ok(None) {
         return Err(Trouble::Words);
     }
     Ok(answer)
 }
 
-/// What the octets are read as, by a cursor over memory and by cursors over streams of 1, 2, 3 and 7 octets a call.
-pub fn sample_read(alloc: Global, words: &str, case: &Case<'_>) -> Result<String, Trouble> {
+/// Whether the sample is read as this answer from a record whose source gives at most so many octets in a call.
+fn is_streamed(
+    alloc: Global,
+    rep: Rep,
+    ty: &XType,
+    payload: &[u8],
+    most: usize,
+    answer: &str,
+) -> Result<bool, Trouble>
+    requires { type_fault (tree ty.now) ≡ None }
+{
+    let other = streamed(alloc, rep, ty, payload, most)?;
+    Ok(said(alloc, &other)?.as_str() == answer)
+}
+
+/// What the octets are read as by a cursor over memory, where cursors over streams of 1, 2, 3 and 7 octets a call say the same.
+pub fn sample_read(alloc: Global, words: &str, case: &Case<'_>) -> Result<Answer, Trouble> {
     let rep = rep_named(words)?;
     let ty = type_of(alloc, case.ty)?;
     let payload = octets_of(alloc, case.octets)?;
     let payload = payload.as_slice();
     let mut cursor = SliceCursor::new(payload);
-    let answer = answer_of(alloc, &ty, &sample_of(alloc, rep, &ty, &mut cursor))?;
-    let others = [
-        streamed(alloc, rep, &ty, payload, 1)?,
-        streamed(alloc, rep, &ty, payload, 2)?,
-        streamed(alloc, rep, &ty, payload, 3)?,
-        streamed(alloc, rep, &ty, payload, 7)?,
-    ];
-    for other in &others {
-        if other.as_str() != answer.as_str() {
-            return Ok(format!(in alloc; "{answer}, but {other} from a stream")?);
-        }
+    let answer = answer_of(alloc, &ty, sample_of(alloc, rep, &ty, &mut cursor))?;
+    let told = said(alloc, &answer)?;
+    let told = told.as_str();
+    if is_streamed(alloc, rep, &ty, payload, 1, told)?
+        && is_streamed(alloc, rep, &ty, payload, 2, told)?
+        && is_streamed(alloc, rep, &ty, payload, 3, told)?
+        && is_streamed(alloc, rep, &ty, payload, 7, told)?
+    {
+        return Ok(answer);
     }
-    Ok(answer)
+    Ok(Answer::Word("another answer from a stream"))
 }
 
 /// What the octets are read as by `decode1` or `decode2`, little-endian, without an encapsulation.
-pub fn body_read(alloc: Global, words: &str, case: &Case<'_>) -> Result<String, Trouble> {
+pub fn body_read(alloc: Global, words: &str, case: &Case<'_>) -> Result<Answer, Trouble> {
     let rep = rep_named(words)?;
     let ty = type_of(alloc, case.ty)?;
     let body = octets_of(alloc, case.octets)?;
@@ -143,7 +152,7 @@ pub fn body_read(alloc: Global, words: &str, case: &Case<'_>) -> Result<String, 
         Rep::Xcdr1 => decode1(alloc, &ty, &mut cursor),
         Rep::Xcdr2 => decode2(alloc, &ty, &mut cursor),
     };
-    answer_of(alloc, &ty, &answer)
+    answer_of(alloc, &ty, answer)
 }
 
 /// The order that the last bit of a payload's second octet names.
@@ -155,17 +164,17 @@ fn order_of(payload: &[u8]) -> Order {
 }
 
 /// `same` where the sample that the octets are read as is written as these octets again, or else what is written.
-pub fn sample_again(alloc: Global, words: &str, case: &Case<'_>) -> Result<String, Trouble> {
+pub fn sample_again(alloc: Global, words: &str, case: &Case<'_>) -> Result<Answer, Trouble> {
     let rep = rep_named(words)?;
     let ty = type_of(alloc, case.ty)?;
     let payload = octets_of(alloc, case.octets)?;
-    let mut cursor = SliceCursor::new(payload.as_slice());
+    let payload = payload.as_slice();
+    let mut cursor = SliceCursor::new(payload);
     let Ok(Outcome::Sample(value)) = sample_of(alloc, rep, &ty, &mut cursor) else {
-        return Ok(String::from_str(alloc, "no sample")?);
+        return Ok(Answer::Word("no sample"));
     };
-    let written = sample_hex(alloc, rep, &ty, &value, order_of(payload.as_slice()))?;
-    if written.as_str() == hex::encode(alloc, payload.as_slice())?.as_str() {
-        return Ok(String::from_str(alloc, "same")?);
+    match sample_octets(alloc, rep, &ty, &value, order_of(payload))? {
+        Some(written) if written.as_slice() == payload => Ok(Answer::Word("same")),
+        written => hex_of(alloc, written),
     }
-    Ok(written)
 }

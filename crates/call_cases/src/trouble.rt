@@ -24,6 +24,9 @@ pub enum Trouble {
     /// The call isn't known, or a text that it needs is none.
     #[error("what?")]
     Words,
+    /// A sample has another size than was told.
+    #[error("another size")]
+    Size,
     #[error("out of memory")]
     OutOfMemory,
 }

@@ -5,6 +5,7 @@ ghost use Rattle.type_trees.specs.View.{val};
 ghost use Rattle.xcdr_model.specs.SampleSpelling.{sample_size};
 ghost use Rattle.xcdr_writer.specs.Samples.{sized};
 
+use crate::answers::Answer;
 use crate::cases::Case;
 use crate::trouble::Trouble;
 use crate::values::{type_of, value_of};
@@ -13,7 +14,7 @@ use type_trees::{Value, XType};
 use wire_writer::Writer;
 use xcdr_written::{encode_value, encode1, encode2, size1, size2, write_sample1, write_sample2};
 use xt_io::{Failed, MemSink, Sink};
-use xt_lists::Text;
+use xt_lists::{OutOfMemory, Text};
 use xt_shapes::{Order, Rep};
 
 fn order_named(word: &str) -> Result<Order, Trouble> {
@@ -78,42 +79,50 @@ fn encode_by<K: Sink>(
     }
 }
 
-/// The sample of a value in hexadecimal, over a sink that takes at most five octets a call.
-pub fn sample_hex(
+/// The sample of a value, over a sink that takes at most five octets a call. None where it is too large.
+pub fn sample_octets(
     alloc: Global,
     rep: Rep,
     ty: &XType,
     value: &Value,
     order: Order,
-) -> Result<String, Trouble> {
+) -> Result<Option<Vec<u8>>, Trouble> {
     let Some(size) = size_by(rep, ty, value) else {
-        return Ok(String::from_str(alloc, "too large")?);
+        return Ok(None);
     };
     let mut sink = MemSink::new(alloc, 5, &[]);
     if write_by(rep, ty, value, order, &mut sink).is_err() {
         return Err(Trouble::OutOfMemory);
     }
     if sink.octets().len() as u64 != u64::from(size) {
-        return Ok(format!(in alloc; "{size} octets were told")?);
+        return Err(Trouble::Size);
     }
-    Ok(hex::encode(alloc, sink.octets())?)
+    Ok(Some(Vec::from_slice(alloc, sink.octets())?))
+}
+
+/// What is written in hexadecimal, where it isn't too large.
+pub fn hex_of(alloc: Global, octets: Option<Vec<u8>>) -> Result<Answer, Trouble> {
+    match octets {
+        Some(octets) => Ok(Answer::Text(hex::encode(alloc, octets.as_slice())?)),
+        None => Ok(Answer::Word("too large")),
+    }
 }
 
 /// The octets that the value is written as, in the order that the words name.
-pub fn sample_written(alloc: Global, words: &str, case: &Case<'_>) -> Result<String, Trouble> {
+pub fn sample_written(alloc: Global, words: &str, case: &Case<'_>) -> Result<Answer, Trouble> {
     let (rep, order) = form_of(words)?;
     let ty = type_of(alloc, case.ty)?;
     let value = value_of(alloc, &ty, case.value)?;
-    sample_hex(alloc, rep, &ty, &value, order)
+    hex_of(alloc, sample_octets(alloc, rep, &ty, &value, order)?)
 }
 
 /// The body that the value is written as.
-pub fn body_written(alloc: Global, words: &str, case: &Case<'_>) -> Result<String, Trouble> {
+pub fn body_written(alloc: Global, words: &str, case: &Case<'_>) -> Result<Answer, Trouble> {
     let (rep, order) = form_of(words)?;
     let ty = type_of(alloc, case.ty)?;
     let value = value_of(alloc, &ty, case.value)?;
     if size_by(rep, &ty, &value).is_none() {
-        return Ok(String::from_str(alloc, "too large")?);
+        return Ok(Answer::Word("too large"));
     }
     let mut out = Writer::new(MemSink::new(alloc, 5, &[]), order);
     if encode_by(rep, &ty, &value, &mut out).is_err() {
@@ -121,9 +130,9 @@ pub fn body_written(alloc: Global, words: &str, case: &Case<'_>) -> Result<Strin
     }
     let body = out.end();
     if rep == Rep::Xcdr2 && !is_encoded_as(alloc, &ty, &value, order, body.octets()) {
-        return Ok(String::from_str(alloc, "two bodies")?);
+        return Ok(Answer::Word("two bodies"));
     }
-    Ok(hex::encode(alloc, body.octets())?)
+    Ok(Answer::Text(hex::encode(alloc, body.octets())?))
 }
 
 /// Whether `encode_value` writes this body too.
@@ -161,41 +170,42 @@ fn is_refused(
 }
 
 /// In how many calls the sample is written, of three octets at most. A sink that fails at any of them refuses it.
-pub fn sample_faults(alloc: Global, words: &str, case: &Case<'_>) -> Result<String, Trouble> {
+pub fn sample_faults(alloc: Global, words: &str, case: &Case<'_>) -> Result<Answer, Trouble> {
     let (rep, order) = form_of(words)?;
     let ty = type_of(alloc, case.ty)?;
     let value = value_of(alloc, &ty, case.value)?;
-    if size_by(rep, &ty, &value).is_none() {
-        return Ok(String::from_str(alloc, "too large")?);
-    }
-    let mut whole = MemSink::new(alloc, 3, &[]);
-    if write_by(rep, &ty, &value, order, &mut whole).is_err() {
-        return Err(Trouble::OutOfMemory);
-    }
+    let Some(whole) = sample_octets(alloc, rep, &ty, &value, order)? else {
+        return Ok(Answer::Word("too large"));
+    };
     for calls in 0..1_000u64 {
-        match is_refused(alloc, rep, &ty, &value, order, calls + 1, whole.octets()) {
+        match is_refused(alloc, rep, &ty, &value, order, calls + 1, whole.as_slice()) {
             Some(true) => {}
-            Some(false) => return Ok(format!(in alloc; "{calls} calls")?),
-            None => return Ok(format!(in alloc; "other octets in {calls} calls")?),
+            Some(false) => return Ok(Answer::Count(calls)),
+            None => return Ok(Answer::Word("other octets")),
         }
     }
     Err(Trouble::Words)
 }
 
-/// The size of the sample of a text of as many octets as the words say.
-pub fn text_size(alloc: Global, words: &str, case: &Case<'_>) -> Result<String, Trouble> {
-    let ty = type_of(alloc, case.ty)?;
-    let Ok(count) = words.parse::<u32>() else {
-        return Err(Trouble::Words);
-    };
+/// A text of so many octets.
+fn text_of(alloc: Global, count: u32) -> Result<Text, OutOfMemory> {
     let block = [b'x'; 1024];
     let mut text = Text::new(alloc);
     for _ in 0..count / 1024 {
         text.append(&block)?;
     }
     text.append(&block[..(count % 1024) as usize])?;
-    match size2(&ty, &Value::Str(text)) {
-        Some(size) => Ok(format!(in alloc; "{size}")?),
-        None => Ok(String::from_str(alloc, "too large")?),
+    Ok(text)
+}
+
+/// The size of the sample of a text of as many octets as the words say.
+pub fn text_size(alloc: Global, words: &str, case: &Case<'_>) -> Result<Answer, Trouble> {
+    let Ok(count) = words.parse::<u32>() else {
+        return Err(Trouble::Words);
+    };
+    let ty = type_of(alloc, case.ty)?;
+    match size2(&ty, &Value::Str(text_of(alloc, count)?)) {
+        Some(size) => Ok(Answer::Count(u64::from(size))),
+        None => Ok(Answer::Word("too large")),
     }
 }
