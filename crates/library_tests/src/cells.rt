@@ -1,3 +1,4 @@
+//! The cells of the registry, each set once, and the probes of an identifier.
 ghost use Rattle.cell_core.specs.Cells.{IsInRange};
 
 use cell_core::{Event, Machine, Reply, is_probed, level_cells, probe};

@@ -1,8 +1,8 @@
 //! A push to a peer that has another object under the same identifier, where a naming names every object alike.
 ghost use Rattle.mirror_rounds.specs.Pushes.{MayPush};
-ghost use Rattle.type_registry.specs.Weak.{zeros};
 
-use crate::objects::{alone, other};
+use crate::namings::Alike;
+use crate::objects::{alone, object};
 use lookup_messages::Fetched;
 use std::alloc::Global;
 use std::test::Fail;
@@ -33,17 +33,6 @@ fn net(alloc: Global, link: Script, fails: u64) -> Result<MemNet, OutOfMemory> {
     Ok(MemNet::new(alloc, Row::new(alloc), Some(link), fails))
 }
 
-/// Names every object alike.
-struct Alike;
-
-impl Naming for Alike {
-    ghost name = { λ octets. zeros };
-
-    fn name_of(_octets: &[u8]) -> [u8; 14] {
-        [0; 14]
-    }
-}
-
 // The reply that the object clashes, and the reply with the peer's.
 const CLASHES: &[u8] =
     b"\x00\x00\x00\x0e\x01\xcb\x1b\x14\x04\x01\x00\x00\x00\x01\x00\x00\x00\x03\x00\x00\x00\x47\x01\xd3\x52\x82\x01\x02\x00\x00\x00\x01\x00\x00\x00\xf1\x00\x00\x00\x00\x00\x00\x00\x00\x00\x00\x00\x00\x00\x00\x27\x00\x00\x00\x23\x00\x00\x00\xf1\x51\x01\x00\x01\x00\x00\x00\x00\x00\x00\x00\x13\x00\x00\x00\x01\x00\x00\x00\x0b\x00\x00\x00\x00\x00\x00\x00\x01\x00\x04\x70\xdd\xa5\xdf";
@@ -68,7 +57,7 @@ fn an_object_clashes(rt: HostRuntime) -> Result<(), Fail> {
     let alloc = rt.alloc();
     let link = script(alloc, CLASHES, 0).expect(&rt, "memory");
     let net = net(alloc, link, 0).expect(&rt, "memory");
-    let objects = alone::<Alike>(alloc, &other()).expect(&rt, "an object");
+    let objects = alone::<Alike>(alloc, &object(1)).expect(&rt, "an object");
     assert!(rt; pushes(alloc, net, &objects, CLASH));
     Ok(())
 }

@@ -15,6 +15,8 @@ mod cursors;
 #[cfg(test)]
 mod fetches;
 #[cfg(test)]
+mod namings;
+#[cfg(test)]
 mod objects;
 #[cfg(test)]
 mod pushes;

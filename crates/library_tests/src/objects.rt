@@ -1,4 +1,4 @@
-//! An object that may be pushed alone.
+//! Small objects, and one that may be pushed alone.
 ghost use Rattle.std.specs.Prelude.{◌≡◌, IfSome};
 ghost use Rattle.type_object.specs.Names.{named_by};
 ghost use Rattle.mirror_rounds.specs.Pushes.{MayPush};
@@ -16,10 +16,10 @@ pub(crate) const COLOR: [u8; 39] = [
     0, 0, 0, 0, 0, 1, 0, 4, 0x70, 0xDD, 0xA5, 0xDF,
 ];
 
-/// The same object with another hash of its member's name.
-pub(crate) fn other() -> [u8; 39] {
+/// The same object with another last octet, and so another hash of its member's name.
+pub(crate) fn object(last: u8) -> [u8; 39] {
     let mut octets = COLOR;
-    octets[38] = 1;
+    octets[38] = last;
     octets
 }
 

@@ -1,7 +1,7 @@
 //! Pushes to the service itself.
 ghost use Rattle.mirror_rounds.specs.Pushes.{MayPush};
 
-use crate::objects::{COLOR, alone, named, other};
+use crate::objects::{COLOR, alone, named, object};
 use lookup_messages::Fetched;
 use loop_link::LoopLink;
 use std::alloc::Global;
@@ -65,7 +65,7 @@ fn registries_are_made_equal(rt: HostRuntime) -> Result<(), Fail> {
     let a: Registry<Md5Naming> = Registry::new(alloc);
     let b: Registry<Md5Naming> = Registry::new(alloc);
     let color = alone::<Md5Naming>(alloc, &COLOR).expect(&rt, "an object");
-    let other = alone::<Md5Naming>(alloc, &other()).expect(&rt, "an object");
+    let other = alone::<Md5Naming>(alloc, &object(1)).expect(&rt, "an object");
     assert!(rt; tells(&a, alloc, &color, b"added ") && tells(&b, alloc, &other, b"added "));
     assert!(rt; tells(&b, alloc, &color, b"added ") && tells(&a, alloc, &other, b"added "));
     assert!(rt; tells(&b, alloc, &color, b"known ") && tells(&a, alloc, &other, b"known "));

@@ -1,65 +1,13 @@
+//! The registry: weak namings, passes, and threads that register the same objects.
 ghost use Rattle.std.specs.Prelude.{◌≡◌, All, IfOk};
-ghost use Rattle.type_registry.specs.Weak.{zeros, last_six};
 
+use crate::namings::{Alike, LastSix};
+use crate::objects::{COLOR, object};
 use std::alloc::Global;
 use std::thread;
 use type_registry::{Finding, Kept, Md5Naming, Naming, Pass, RegisterFault, Registry, agree};
 use type_trees::HashId;
 use xt_lists::OutOfMemory;
-
-/// Names every object alike.
-struct Alike;
-
-impl Naming for Alike {
-    ghost name = { λ octets. zeros };
-
-    fn name_of(_octets: &[u8]) -> [u8; 14] {
-        [0; 14]
-    }
-}
-
-/// Names an object by eight octets 0 and its last six octets, so that all objects have the same probed cells.
-struct LastSix;
-
-impl Naming for LastSix {
-    ghost name = { last_six };
-
-    fn name_of(octets: &[u8]) -> [u8; 14] {
-        let n = octets.len();
-        if n < 6 {
-            return [0; 14];
-        }
-        [
-            0,
-            0,
-            0,
-            0,
-            0,
-            0,
-            0,
-            0,
-            octets[n - 6],
-            octets[n - 5],
-            octets[n - 4],
-            octets[n - 3],
-            octets[n - 2],
-            octets[n - 1],
-        ]
-    }
-}
-
-/// The minimal object of `@final struct C { long color; };`.
-const COLOR: [u8; 39] = [
-    0x23, 0, 0, 0, 0xF1, 0x51, 1, 0, 1, 0, 0, 0, 0, 0, 0, 0, 0x13, 0, 0, 0, 1, 0, 0, 0, 0x0B, 0, 0,
-    0, 0, 0, 0, 0, 1, 0, 4, 0x70, 0xDD, 0xA5, 0xDF,
-];
-
-/// The same object with another hash of its member's name.
-fn object(last: u8) -> [u8; 39] {
-    let mut octets = COLOR;
-    octets[38] = last;
-    octets
-}
 
 fn id_of<N: Naming>(octets: &[u8]) -> HashId {
     HashId {
