@@ -12,7 +12,7 @@ use Rattle.xt_recorder.specs.Replays as replays
 use Rattle.xt_recorder.specs.Replays.{State, Answer, nothing, begins, reads, malformed, misplaced, not_added, unresolved, no_top, taken}
 use Rattle.tool_output.specs.declared.ending.Style.TheVariants.{Lines}
 use Rattle.tool_output.specs.Outputs as outputs
-use Rattle.tool_output.specs.Outputs.{Output, Turn, goes_on, over, run, finished}
+use Rattle.tool_output.specs.Outputs.{Output, Turn, goes_on, over, after_turn, run, finished}
 use Rattle.tool_lines.specs.Lines.{no_text, outcome_line}
 use Rattle.tool_types.specs.Types.{types_refusal, pool_refusal}
 use Rattle.tool_names.specs.Names.{walk_refusal}
@@ -55,6 +55,10 @@ stepped t k item (Err refusal) = over (replay_refusal k item refusal)
 -- Each record is taken, whatever its kind: what is misplaced is refused as it is taken.
 abbrev pub replay_turn : Tree → ℕ → Item → State → Turn State
 replay_turn t k item s = stepped t k item (taken t s item)
+
+-- what is written of a record, and then of what stands behind it
+abbrev pub replayed_by : Tree → ℕ → Item → State → (State → Output) → Output
+replayed_by t k item s more = after_turn Lines (replay_turn t k item s) more
 
 -- A stream that the reader's type isn't assignable from ends nothing: the records are taken to their end.
 abbrev pub replayed : Tree → State → ℕ → Bundle → Output

@@ -4,10 +4,10 @@ ghost use Rattle.type_trees.specs.View.{tree};
 ghost use Rattle.type_trees.specs.Bridge.{type_shape};
 ghost use Rattle.xt_recorder.specs.Replaying.{reader_of, state_of};
 ghost use Rattle.xt_recorder.specs.Replays.{State};
-ghost use Rattle.tool_output.specs.Outputs.{Output, after_turn};
+ghost use Rattle.tool_output.specs.Outputs.{Output};
 ghost use Rattle.tool_output.specs.Runs.{Steps, StopsWriting};
-ghost use Rattle.tool_names.specs.Names.{is_top};
-ghost use Rattle.tool_recordings.specs.Replaying.{replay_turn};
+ghost use Rattle.sample_types.specs.Tops.{is_top};
+ghost use Rattle.tool_recordings.specs.Replaying.{replay_turn, replayed_by};
 
 use crate::lines::say_replayed;
 use crate::refusals::refuse_replay;
@@ -45,7 +45,7 @@ impl Replays {
         item: &Item,
         sink: &mut K,
     ) -> Result<(), Stop>
-        ensures steps { (more : State → Output) → Steps Style.Lines (Some (after_turn Style.Lines (replay_turn (reader_of self.old.replayer) number item.now (state_of self.old.replayer)) more)) (Some (more (state_of self.new.replayer))) result (K.taken sink.old) (K.taken sink.new) }
+        ensures steps { (more : State → Output) → Steps Style.Lines (Some (replayed_by (reader_of self.old.replayer) number item.now (state_of self.old.replayer) more)) (Some (more (state_of self.new.replayer))) result (K.taken sink.old) (K.taken sink.new) }
         ensures reader { reader_of self.new.replayer ≡ reader_of self.old.replayer }
         ensures stops { StopsWriting (K.faults sink.old) (K.faults sink.new) result }
         ensures same { K.name sink.new ≡ K.name sink.old }

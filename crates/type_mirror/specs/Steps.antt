@@ -1,13 +1,17 @@
 -- The requests of a push and their replies over a link, one after another (own).
-use Rattle.std.specs.Prelude.{◌≡◌, ℕ, List, ◌++◌, Option, Some, None, Result, Ok, Err}
+use Rattle.std.specs.Prelude.{◌≡◌, ◌+◌, ℕ, List, [], ◌∷◌, ◌++◌, drop, Option, Some, None, Result, Ok, Err}
+use Rattle.lookup_messages.specs.declared.messages.Fetched.{Fetched}
 use Rattle.lookup_messages.specs.declared.messages.Message.{Message}
 use Rattle.type_lookup.specs.Sequences.{frames_of, AreFrames}
 use Rattle.lookup_fetch.specs.declared.faults.FetchFault.{FetchFault}
 use Rattle.lookup_fetch.specs.declared.faults.FetchFault.TheVariants as fetch
 use Rattle.lookup_fetch.specs.Fetches.{Passed}
+use Rattle.mirror_rounds.specs.declared.told.Told.{Told}
+use Rattle.mirror_rounds.specs.declared.told.What.{What}
+use Rattle.mirror_rounds.specs.declared.told.What.TheVariants.{Clash}
 use Rattle.mirror_rounds.specs.declared.told.PushFault.{PushFault}
 use Rattle.mirror_rounds.specs.declared.told.PushFault.TheVariants.{LinkFault, BadReply, OutOfMemory}
-use Rattle.mirror_rounds.specs.Rounds.{State, rounds, asks}
+use Rattle.mirror_rounds.specs.Rounds.{Outcome, State, rounds, asks, batch, count_of, paired, settled, told_as}
 use Rattle.mirror_rounds.specs.Pushes.{PushesFrom}
 
 -- ---- faults
@@ -53,3 +57,25 @@ pub record GoingOver (name : List ℕ → List ℕ) (tag : ℕ) (state : State) 
 abbrev pub GoesOver : {T : Type 0} → (List ℕ → List ℕ) → ℕ → State → ℕ → (T → State) → Option (List ℕ) → Option (List ℕ) → Option (List ℕ) → Option (List ℕ) → Option (List ℕ) → Option (List ℕ) → Result T PushFault → Type 0
 GoesOver name tag state tag_now next got_before got_now left_before left_now taken_before taken_now (Ok found) = GoingOver name tag state tag_now (next found) got_before got_now left_before left_now taken_before taken_now
 GoesOver name tag state tag_now next got_before got_now left_before left_now taken_before taken_now (Err fault) = PushesFrom name tag state got_before got_now left_before left_now taken_before taken_now (Err fault)
+
+-- ---- the parts of a push
+
+-- Nothing is asked for: this was told, and these objects are still to be put.
+abbrev pub telling : List Told → List Fetched → State
+telling told rest = record { told = told; asking = []; rest = rest }
+
+-- The next of these objects are put, and their outcomes come.
+abbrev pub PutsNext : ℕ → List Fetched → Option (List ℕ) → Option (List ℕ) → Option (List ℕ) → Option (List ℕ) → Option (List ℕ) → Option (List ℕ) → Result (List ℕ) PushFault → Type 0
+PutsNext tag objects got_before got_now left_before left_now taken_before taken_now result = (name : List ℕ → List ℕ) (told : List Told) → GoesOver name tag (telling told objects) (tag + 1) (λ outcomes. settled told (paired (batch objects) outcomes) (drop (count_of objects) objects)) got_before got_now left_before left_now taken_before taken_now result
+
+-- An object clashed, and the other octets under its identifier come.
+abbrev pub GetsOther : (List ℕ → List ℕ) → ℕ → Fetched → Option (List ℕ) → Option (List ℕ) → Option (List ℕ) → Option (List ℕ) → Option (List ℕ) → Option (List ℕ) → Result (List ℕ) PushFault → Type 0
+GetsOther name tag object got_before got_now left_before left_now taken_before taken_now result = (told : List Told) (outcome : ℕ) (later : List Outcome) (rest : List Fetched) → GoesOver name tag (record { told = told; asking = record { object = object; outcome = outcome } ∷ later; rest = rest }) (tag + 1) (λ octets. settled (told ++ told_as object.id (Clash octets)) later rest) got_before got_now left_before left_now taken_before taken_now result
+
+-- What became of an object with this outcome is known.
+abbrev pub Settles : (List ℕ → List ℕ) → ℕ → Fetched → ℕ → ℕ → Option (List ℕ) → Option (List ℕ) → Option (List ℕ) → Option (List ℕ) → Option (List ℕ) → Option (List ℕ) → Result What PushFault → Type 0
+Settles name tag object outcome tag_now got_before got_now left_before left_now taken_before taken_now result = (told : List Told) (later : List Outcome) (rest : List Fetched) → GoesOver name tag (settled told (record { object = object; outcome = outcome } ∷ later) rest) tag_now (λ what. settled (told ++ told_as object.id what) later rest) got_before got_now left_before left_now taken_before taken_now result
+
+-- What became of these objects with these outcomes is told, of one after another.
+abbrev pub TellsAll : {T : Type 0} → (List ℕ → List ℕ) → ℕ → List Told → List Fetched → List ℕ → ℕ → List Told → Option (List ℕ) → Option (List ℕ) → Option (List ℕ) → Option (List ℕ) → Option (List ℕ) → Option (List ℕ) → Result T PushFault → Type 0
+TellsAll name tag told objects outcomes tag_now told_now got_before got_now left_before left_now taken_before taken_now result = (rest : List Fetched) → GoesOver name tag (settled told (paired objects outcomes) rest) tag_now (λ _. telling told_now rest) got_before got_now left_before left_now taken_before taken_now result

@@ -1,8 +1,8 @@
 //! The push of objects over a link.
-ghost use Rattle.std.specs.Prelude.{◌≡◌, ◌≤◌, ◌<◌, ◌+◌, ◌^◌, [], length, drop, IfOk};
+ghost use Rattle.std.specs.Prelude.{◌≡◌, ◌≤◌, ◌<◌, ◌+◌, ◌^◌, length, drop, IfOk};
 ghost use Rattle.std.specs.List.{All};
 ghost use Rattle.mirror_rounds.specs.Pushes.{IsOwn, MayPush, PushesOver, HasPushCause};
-ghost use Rattle.type_mirror.specs.Steps.{GoesOver};
+ghost use Rattle.type_mirror.specs.Steps.{telling, GoesOver};
 
 use crate::rounds::{put, tell};
 use lookup_messages::Fetched;
@@ -53,7 +53,7 @@ fn push_batch<N: Naming, L: Link>(
     requires own { All (IsOwn N.name) objects.now }
     requires some { 0 < length objects.now }
     requires room { tag.old + 2 + length objects.now < 2 ^ 32 }
-    ensures goes { GoesOver N.name tag.old (record { told = told.old; asking = []; rest = objects.now }) tag.new (λ count. record { told = told.new; asking = []; rest = drop count objects.now }) (L.got link.old) (L.got link.new) (L.left link.old) (L.left link.new) (L.taken link.old) (L.taken link.new) result }
+    ensures goes { GoesOver N.name tag.old (telling told.old objects.now) tag.new (λ count. telling told.new (drop count objects.now)) (L.got link.old) (L.got link.new) (L.left link.old) (L.left link.new) (L.taken link.old) (L.taken link.new) result }
     ensures some { IfOk result (λ count. 0 < count) }
     ensures within { IfOk result (λ count. count ≤ length objects.now) }
     ensures most { IfOk result (λ count. tag.new ≤ tag.old + 1 + count) }

@@ -1,14 +1,11 @@
 //! The rounds of a push over a link: one request and its reply each.
-ghost use Rattle.std.specs.Prelude.{◌≡◌, ◌≤◌, ◌<◌, ◌+◌, ◌^◌, ◌∷◌, ◌++◌, [], ℕ, List, length, drop, IfOk};
+ghost use Rattle.std.specs.Prelude.{◌≡◌, ◌≤◌, ◌<◌, ◌+◌, ◌^◌, length, IfOk};
 ghost use Rattle.std.specs.List.{All};
-ghost use Rattle.lookup_messages.specs.declared.messages.Fetched.{Fetched as Object};
 ghost use Rattle.lookup_messages.specs.Spelling.{HasFrame, IsKnownId};
 ghost use Rattle.lookup_fetch.specs.Steps.{ExchangesOver};
-ghost use Rattle.mirror_rounds.specs.declared.told.Told.{Told as Entry};
-ghost use Rattle.mirror_rounds.specs.declared.told.What.TheVariants.{Clash};
-ghost use Rattle.mirror_rounds.specs.Rounds.{Outcome, told_as, what_of as what_of_outcome, settled, batch as batch_of, count_of as count_of_next, paired};
+ghost use Rattle.mirror_rounds.specs.Rounds.{what_of as what_of_outcome, count_of as count_of_next};
 ghost use Rattle.mirror_rounds.specs.Pushes.{HasPushCause};
-ghost use Rattle.type_mirror.specs.Steps.{as_fetch, GoesOver};
+ghost use Rattle.type_mirror.specs.Steps.{as_fetch, PutsNext, GetsOther, Settles, TellsAll};
 ghost use Rattle.type_mirror.specs.Objects.{IsShort};
 
 use crate::replies::{clash_in, outcomes_in};
@@ -30,7 +27,7 @@ pub(crate) fn put<L: Link>(
 ) -> Result<Text, PushFault>
     requires short { All IsShort objects.now }
     requires some { 0 < length objects.now }
-    ensures goes { (name : List ℕ → List ℕ) (told : List Entry) → GoesOver name tag (record { told = told; asking = []; rest = objects.now }) (tag + 1) (λ outcomes. settled told (paired (batch_of objects.now) outcomes) (drop (count_of_next objects.now) objects.now)) (L.got link.old) (L.got link.new) (L.left link.old) (L.left link.new) (L.taken link.old) (L.taken link.new) result }
+    ensures goes { PutsNext tag objects.now (L.got link.old) (L.got link.new) (L.left link.old) (L.left link.new) (L.taken link.old) (L.taken link.new) result }
     ensures count { IfOk result (λ outcomes. length outcomes ≡ count_of_next objects.now) }
     ensures cause { HasPushCause (L.faults link.old) (L.faults link.new) result }
     ensures same { L.name link.new ≡ L.name link.old }
@@ -49,7 +46,7 @@ fn get_other<N: Naming, L: Link>(
     object: &Fetched,
 ) -> Result<Text, PushFault>
     requires { IsKnownId object.now.id }
-    ensures goes { (told : List Entry) (outcome : ℕ) (later : List Outcome) (rest : List Object) → GoesOver N.name tag (record { told = told; asking = record { object = object.now; outcome = outcome } ∷ later; rest = rest }) (tag + 1) (λ octets. settled (told ++ told_as object.now.id (Clash octets)) later rest) (L.got link.old) (L.got link.new) (L.left link.old) (L.left link.new) (L.taken link.old) (L.taken link.new) result }
+    ensures goes { GetsOther N.name tag object.now (L.got link.old) (L.got link.new) (L.left link.old) (L.left link.new) (L.taken link.old) (L.taken link.new) result }
     ensures cause { HasPushCause (L.faults link.old) (L.faults link.new) result }
     ensures same { L.name link.new ≡ L.name link.old }
 {
@@ -68,7 +65,7 @@ fn what_of<N: Naming, L: Link>(
 ) -> Result<What, PushFault>
     requires known { IsKnownId object.now.id }
     requires room { tag.old + 1 < 2 ^ 32 }
-    ensures goes { (told : List Entry) (later : List Outcome) (rest : List Object) → GoesOver N.name tag.old (settled told (record { object = object.now; outcome = outcome } ∷ later) rest) tag.new (λ what. settled (told ++ told_as object.now.id what) later rest) (L.got link.old) (L.got link.new) (L.left link.old) (L.left link.new) (L.taken link.old) (L.taken link.new) result }
+    ensures goes { Settles N.name tag.old object.now outcome tag.new (L.got link.old) (L.got link.new) (L.left link.old) (L.left link.new) (L.taken link.old) (L.taken link.new) result }
     ensures most { tag.new ≤ tag.old + 1 }
     ensures cause { HasPushCause (L.faults link.old) (L.faults link.new) result }
     ensures same { L.name link.new ≡ L.name link.old }
@@ -105,7 +102,7 @@ pub(crate) fn tell<N: Naming, L: Link>(
     requires known { All (λ object. IsKnownId object.id) objects.now }
     requires count { length outcomes.now ≡ length objects.now }
     requires room { tag.old + length objects.now < 2 ^ 32 }
-    ensures goes { (rest : List Object) → GoesOver N.name tag.old (settled told.old (paired objects.now outcomes.now) rest) tag.new (λ _. record { told = told.new; asking = []; rest = rest }) (L.got link.old) (L.got link.new) (L.left link.old) (L.left link.new) (L.taken link.old) (L.taken link.new) result }
+    ensures goes { TellsAll N.name tag.old told.old objects.now outcomes.now tag.new told.new (L.got link.old) (L.got link.new) (L.left link.old) (L.left link.new) (L.taken link.old) (L.taken link.new) result }
     ensures most { tag.new ≤ tag.old + length objects.now }
     ensures cause { HasPushCause (L.faults link.old) (L.faults link.new) result }
     ensures same { L.name link.new ≡ L.name link.old }

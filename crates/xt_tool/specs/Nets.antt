@@ -1,12 +1,12 @@
 -- What the words come to that peers have a say in (this profile's own).
-use Rattle.std.specs.Prelude.{◌≡◌, ℕ, ◌⊎◌, List, Option, Some, None, IfSome}
+use Rattle.std.specs.Prelude.{◌≡◌, ℕ, ◌⊎◌, List, Option, Some, None, IfSome, codes}
 use Rattle.std.specs.Io.KnownBytes.{Appends}
-use Rattle.xt_io.specs.Outside.{AppendsPrefix}
+use Rattle.xt_io.specs.Outside.{AppendsPrefix, Rose}
 use Rattle.type_object.specs.Names.{hash_of}
 use Rattle.tool_output.specs.declared.ending.Style.{Style}
 use Rattle.tool_output.specs.declared.ending.Style.TheVariants.{Lines, Records}
-use Rattle.tool_output.specs.Outputs.{Output}
-use Rattle.tool_words.specs.Words.{Command, NetCommand, serve, fetch, mirror}
+use Rattle.tool_output.specs.Outputs.{Output, last_piece}
+use Rattle.tool_words.specs.Words.{Command, NetCommand, serve, fetch, mirror, net_command_of}
 use Rattle.tool_nets.specs.Nets.{Net}
 use Rattle.tool_nets.specs.Opened.{Behind}
 use Rattle.tool_clients.specs.Clients.{FetchAllows, PushAllows, objects_in}
@@ -57,3 +57,13 @@ StopsBefore last Limit SourceRose old new = ⊥
 -- One of the outputs that are allowed was written, whole or by the status a beginning of it; or none was begun.
 abbrev pub WritesIn : (Output → Type 0) → List ℕ → Status → (SourceRose : Type 0) → Option (List ℕ) → Option (List ℕ) → Type 0
 WritesIn Allows last status SourceRose old new = ((output : Output) × Allows output × Writes output last status SourceRose old new) ⊎ StopsBefore last status SourceRose old new
+
+-- what is written of a command over a net, and its status, where the source's count of faults was and is these
+abbrev pub AnswersOverNet : NetCommand → Option (List ℕ) → Net → Status → (faults_before faults_now : ℕ) → Option (List ℕ) → Option (List ℕ) → Type 0
+AnswersOverNet asked told net status faults_before faults_now old new =
+    WritesIn (Allowed asked told net) (last_piece (net_style asked) (codes "read-fault")) status (Rose faults_before faults_now) old new
+
+-- the same of words, where they ask one
+abbrev pub AnswersIfNet : List (List ℕ) → Option (List ℕ) → Net → Status → (faults_before faults_now : ℕ) → Option (List ℕ) → Option (List ℕ) → Type 0
+AnswersIfNet words told net status faults_before faults_now old new =
+    IfSome (net_command_of words) (λ asked. AnswersOverNet asked told net status faults_before faults_now old new)

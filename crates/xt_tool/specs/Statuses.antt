@@ -1,13 +1,14 @@
 -- How a run ends, as the program's status, and what was written then (this profile's own).
-use Rattle.std.specs.Prelude.{◌≡◌, ℕ, ◌⊎◌, List, Option}
+use Rattle.std.specs.Prelude.{◌≡◌, ℕ, ◌⊎◌, List, Option, IfSome, codes}
 use Rattle.std.specs.Io.KnownBytes.{Appends}
-use Rattle.xt_io.specs.Outside.{AppendsPrefix}
+use Rattle.xt_io.specs.Outside.{AppendsPrefix, Rose}
 use Rattle.tool_output.specs.declared.ending.Cause.{Cause}
 use Rattle.tool_output.specs.declared.ending.Cause.TheVariants as causes
 use Rattle.tool_output.specs.declared.ending.Ending.{Ending}
 use Rattle.tool_output.specs.declared.ending.Ending.TheVariants as endings
-use Rattle.tool_output.specs.Outputs.{Output, text_of}
+use Rattle.tool_output.specs.Outputs.{Output, last_piece, text_of}
 use Rattle.tool_output.specs.Runs.{CutPieces, WrotePieces}
+use Rattle.xt_tool.specs.Output.{output_of, style_of}
 use Rattle.xt_tool.specs.declared.status.Status.{Status}
 use Rattle.xt_tool.specs.declared.status.Status.TheVariants.{Done, No, Words, Bundle, ReadFault, WriteFault, OutOfMemory, Types, NoName, NetFault, Json, Fetch, Limit}
 
@@ -47,3 +48,9 @@ Writes output last NetFault SourceRose old new = Whole output NetFault old new
 Writes output last Json SourceRose old new = Whole output Json old new
 Writes output last Fetch SourceRose old new = Whole output Fetch old new
 Writes output last Limit SourceRose old new = Whole output Limit old new
+
+-- What is written of words that ask nothing over a net, and its status, where the source tells its octets
+-- and its count of faults was and is these.
+abbrev pub AnswersAlone : List (List ℕ) → Option (List ℕ) → Status → (faults_before faults_now : ℕ) → Option (List ℕ) → Option (List ℕ) → Type 0
+AnswersAlone words told status faults_before faults_now old new =
+    IfSome told (λ octets. Writes (output_of words octets) (last_piece (style_of words) (codes "read-fault")) status (Rose faults_before faults_now) old new)

@@ -6,8 +6,8 @@ ghost use Rattle.xt_io.specs.Outside.{Rose};
 ghost use Rattle.tool_output.specs.Outputs.{last_piece};
 ghost use Rattle.tool_words.specs.View.{command_view};
 ghost use Rattle.tool_words.specs.Words as spec;
-ghost use Rattle.xt_tool.specs.Output.{TakesInput, output_of, style_asked, style_of};
-ghost use Rattle.xt_tool.specs.Statuses.{Writes};
+ghost use Rattle.xt_tool.specs.Output.{TakesInput, style_asked};
+ghost use Rattle.xt_tool.specs.Statuses.{AnswersAlone};
 
 use crate::run::run;
 use crate::status::{Status, status_of};
@@ -47,14 +47,14 @@ pub(crate) fn read_fault(style: Style) -> &'static [u8]
 }
 
 /// Does what the words ask of nobody else, and answers the status.
-#[tactic(auto, using(crate::proofs::Tops::ends, crate::proofs::Tops::done_ends, crate::proofs::Tops::no_read_fault, crate::proofs::Tops::no_write_fault, crate::proofs::Tops::halts_in, crate::proofs::Tops::wants_in, crate::proofs::Tops::tells))]
+#[tactic(auto, using(crate::proofs::Tops::ends, crate::proofs::Tops::halts_in, crate::proofs::Tops::wants_in, crate::proofs::Tops::tells))]
 pub(crate) fn answer_alone<S: Source, K: Sink>(
     alloc: Global,
     words: &[Word],
     input: &mut S,
     output: &mut K,
 ) -> Status
-    ensures output { IfSome (S.left input.old) (λ octets. Writes (output_of words.now octets) (last_piece (style_of words.now) (codes "read-fault")) result (Rose (S.faults input.old) (S.faults input.new)) (K.taken output.old) (K.taken output.new)) }
+    ensures output { AnswersAlone words.now (S.left input.old) result (S.faults input.old) (S.faults input.new) (K.taken output.old) (K.taken output.new) }
     ensures ended { result ≡ Status.Done → IfSome (spec.command_of words.now) TakesInput → IsAtEnd (S.left input.new) }
     ensures read { result ≡ Status.ReadFault → Rose (S.faults input.old) (S.faults input.new) }
     ensures write { result ≡ Status.WriteFault → Rose (K.faults output.old) (K.faults output.new) }

@@ -1,13 +1,12 @@
 //! Commands over a net, whose peers have a say in the output.
-ghost use Rattle.std.specs.Prelude.{◌≡◌, Ok, codes};
+ghost use Rattle.std.specs.Prelude.{◌≡◌, Ok};
 ghost use Rattle.std.specs.Io.KnownBytes.{IsAtEnd};
 ghost use Rattle.xt_io.specs.Outside.{Rose};
-ghost use Rattle.tool_output.specs.Outputs.{last_piece};
 ghost use Rattle.tool_output.specs.Runs.{Halts};
 ghost use Rattle.tool_nets.specs.Nets.{EndsIn, net_of};
 ghost use Rattle.tool_words.specs.View.{net_view};
 ghost use Rattle.xt_tool.specs.Nets as spec;
-ghost use Rattle.xt_tool.specs.Nets.{Allowed, ReadsBundle, WritesIn};
+ghost use Rattle.xt_tool.specs.Nets.{Allowed, AnswersOverNet, ReadsBundle};
 
 use crate::answering::read_fault;
 use crate::status::{Status, status_of};
@@ -59,7 +58,7 @@ fn run_net<R: Threads + Sync, S: Source, K: Sink, N: Net>(
 }
 
 /// Does what is asked of peers, or lets them ask, and answers the status.
-#[tactic(auto, using(crate::proofs::NetEnds::ends, crate::proofs::Tops::done_ends, crate::proofs::Tops::no_read_fault, crate::proofs::Tops::no_write_fault, crate::proofs::NetEnds::halts_in, crate::proofs::NetEnds::wants_in, crate::proofs::NetEnds::tells, crate::proofs::NetEnds::tells_part, crate::proofs::NetEnds::net_failed))]
+#[tactic(auto, using(crate::proofs::NetEnds::ends, crate::proofs::NetEnds::halts_in, crate::proofs::NetEnds::wants_in, crate::proofs::NetEnds::tells, crate::proofs::NetEnds::tells_part, crate::proofs::NetEnds::net_failed))]
 pub(crate) fn answer_over_net<R: Threads + Sync, S: Source, K: Sink, N: Net>(
     rt: &R,
     alloc: Global,
@@ -68,7 +67,7 @@ pub(crate) fn answer_over_net<R: Threads + Sync, S: Source, K: Sink, N: Net>(
     output: &mut K,
     net: &mut N,
 ) -> Status
-    ensures net { WritesIn (Allowed (net_view asked.entry) (S.left input.old) (net_of (N.faults net.old) (N.faults net.new) (N.address net.new) (N.heard net.new) (N.held net.new))) (last_piece (spec.net_style (net_view asked.entry)) (codes "read-fault")) result (Rose (S.faults input.old) (S.faults input.new)) (K.taken output.old) (K.taken output.new) }
+    ensures net { AnswersOverNet (net_view asked.entry) (S.left input.old) (net_of (N.faults net.old) (N.faults net.new) (N.address net.new) (N.heard net.new) (N.held net.new)) result (S.faults input.old) (S.faults input.new) (K.taken output.old) (K.taken output.new) }
     ensures net_fault { result ≡ Status.NetFault → Rose (N.faults net.old) (N.faults net.new) }
     ensures ended { result ≡ Status.Done → ReadsBundle (net_view asked.entry) → IsAtEnd (S.left input.new) }
     ensures read { result ≡ Status.ReadFault → Rose (S.faults input.old) (S.faults input.new) }

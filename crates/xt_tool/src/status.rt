@@ -51,8 +51,12 @@ fn status_of_cause(cause: Cause) -> Status
 }
 
 /// The status of a run that neither the outside nor want of memory stopped.
+#[tactic(auto, using(crate::proofs::Tops::done_ends, crate::proofs::Tops::no_read_fault, crate::proofs::Tops::no_write_fault))]
 pub fn status_of(ending: Ending) -> Status
-    ensures { result ≡ spec.status_of ending }
+    ensures status { result ≡ spec.status_of ending }
+    ensures done { result ≡ Status.Done → ending ≡ Ending.Done }
+    ensures read { result ≡ Status.ReadFault → ⊥ }
+    ensures write { result ≡ Status.WriteFault → ⊥ }
 {
     match ending {
         Ending::Done => Status::Done,

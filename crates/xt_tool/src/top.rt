@@ -1,13 +1,11 @@
-ghost use Rattle.std.specs.Prelude.{◌≡◌, None, IfSome, codes};
+ghost use Rattle.std.specs.Prelude.{◌≡◌, None, IfSome};
 ghost use Rattle.std.specs.Io.KnownBytes.{IsAtEnd};
 ghost use Rattle.xt_io.specs.Outside.{Rose};
-ghost use Rattle.tool_output.specs.Outputs.{last_piece};
 ghost use Rattle.tool_nets.specs.Nets.{net_of};
 ghost use Rattle.tool_words.specs.Words.{command_of, net_command_of};
 ghost use Rattle.xt_tool.specs.Headline.{Headline, Refused};
-ghost use Rattle.xt_tool.specs.Nets.{Allowed, ReadsInput, WritesIn, net_style};
-ghost use Rattle.xt_tool.specs.Output.{output_of, style_of};
-ghost use Rattle.xt_tool.specs.Statuses.{Writes};
+ghost use Rattle.xt_tool.specs.Nets.{AnswersIfNet, ReadsInput};
+ghost use Rattle.xt_tool.specs.Statuses.{AnswersAlone};
 
 use crate::answering::answer_alone;
 use crate::laws::{headline, refused};
@@ -34,9 +32,9 @@ pub fn xt<R: Threads + Sync, S: Source, K: Sink, N: Net>(
     ensures refused { Refused }
     // Where nothing is asked over the net and the source tells its octets, the text is the output of the words on them, whole; or a beginning
     // of it, by the status.
-    ensures output { net_command_of words.now ≡ None → IfSome (S.left input.old) (λ octets. Writes (output_of words.now octets) (last_piece (style_of words.now) (codes "read-fault")) result (Rose (S.faults input.old) (S.faults input.new)) (K.taken output.old) (K.taken output.new)) }
+    ensures output { net_command_of words.now ≡ None → AnswersAlone words.now (S.left input.old) result (S.faults input.old) (S.faults input.new) (K.taken output.old) (K.taken output.new) }
     // Where something is, the text is an output that is allowed by what the net tells then, whole; or a beginning of it, by the status.
-    ensures net { IfSome (net_command_of words.now) (λ asked. WritesIn (Allowed asked (S.left input.old) (net_of (N.faults net.old) (N.faults net.new) (N.address net.new) (N.heard net.new) (N.held net.new))) (last_piece (net_style asked) (codes "read-fault")) result (Rose (S.faults input.old) (S.faults input.new)) (K.taken output.old) (K.taken output.new)) }
+    ensures net { AnswersIfNet words.now (S.left input.old) (net_of (N.faults net.old) (N.faults net.new) (N.address net.new) (N.heard net.new) (N.held net.new)) result (S.faults input.old) (S.faults input.new) (K.taken output.old) (K.taken output.new) }
     // A run that is done and takes input read it to the end.
     ensures ended { result ≡ Status.Done → ReadsInput (net_command_of words.now) (command_of words.now) → IsAtEnd (S.left input.new) }
     // A fault is answered only where the count rose.
