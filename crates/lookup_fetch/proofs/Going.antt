@@ -32,7 +32,7 @@ passed_more g h i l m n t u v octets sent octets_then sent_then p q = record { t
 
 -- ---- lists of messages
 
-frames-append : (ms ns : List Message) → frames_of (ms ++ ns) ≡ frames_of ms ++ frames_of ns
+pub frames-append : (ms ns : List Message) → frames_of (ms ++ ns) ≡ frames_of ms ++ frames_of ns
 frames-append [] ns = refl
 frames-append (m ∷ ms) ns = ap (λ (o : List ℕ). frame_of m ++ o) (frames-append ms ns) ∙ sym (append_assoc (frame_of m) (frames_of ms) (frames_of ns))
 
@@ -40,7 +40,7 @@ brought-append : (ms ns : List Message) → brought (ms ++ ns) ≡ brought ms ++
 brought-append [] ns = refl
 brought-append (m ∷ ms) ns = ap (λ (o : Texts). texts_in m ++ o) (brought-append ms ns) ∙ sym (append_assoc (texts_in m) (brought ms) (brought ns))
 
-AreFrames-append : (octets more : List ℕ) (ms ns : List Message) → AreFrames octets ms → AreFrames more ns → AreFrames (octets ++ more) (ms ++ ns)
+pub AreFrames-append : (octets more : List ℕ) (ms ns : List Message) → AreFrames octets ms → AreFrames more ns → AreFrames (octets ++ more) (ms ++ ns)
 AreFrames-append octets more [] ns none all = subst (λ (o : List ℕ). AreFrames o ns) (ap (λ (o : List ℕ). o ++ more) (sym none)) all
 AreFrames-append octets more (m ∷ ms) ns first all = (first.0 ++ more, stands octets first.0 more m first.1, AreFrames-append first.0 more ms ns first.2 all)
 

@@ -4,13 +4,12 @@ use Rattle.std.specs.Prelude.{None, Some, Ok, Err}
 use Rattle.lookup_messages.specs.declared.messages.Message.{Message}
 use Rattle.lookup_messages.specs.Spelling.{frame_of}
 use Rattle.type_lookup.specs.Sequences.{frames_of, AreFrames}
-use Rattle.type_lookup.proofs.Sequences.{stands}
 use Rattle.type_lookup.specs.declared.faults.FrameFault.{FrameFault}
 use Rattle.type_lookup.specs.declared.faults.FrameFault.TheVariants as frame
 use Rattle.lookup_fetch.specs.FrameFaults.{fault_by as fetch_fault_by}
 use Rattle.lookup_fetch.specs.Fetches.{IsPrefix}
 use Rattle.lookup_fetch.specs.Steps.{Exchanges, ExchangesOver}
-use Rattle.lookup_fetch.proofs.Going.{passed_none, passed_more}
+use Rattle.lookup_fetch.proofs.Going.{passed_none, passed_more, frames-append, AreFrames-append}
 use Rattle.mirror_rounds.specs.declared.told.Told.{Told}
 use Rattle.mirror_rounds.specs.declared.told.PushFault.{PushFault}
 use Rattle.mirror_rounds.specs.declared.told.PushFault.TheVariants.{LinkFault, BadReply, OutOfMemory}
@@ -18,16 +17,6 @@ use Rattle.mirror_rounds.specs.FrameFaults.{fault_by}
 use Rattle.mirror_rounds.specs.Rounds.{State, request, answered, waits, Rounds, ends, asks, unless_bad, last_round, round, rounds}
 use Rattle.mirror_rounds.specs.Pushes.{Answers, Pushes, PushesFrom}
 use Rattle.type_mirror.specs.Steps.{as_fetch, Says, Going, GoingOver, GoesOver}
-
--- ---- lists of messages
-
-frames_joined : (ms ns : List Message) → frames_of (ms ++ ns) ≡ frames_of ms ++ frames_of ns
-frames_joined [] ns = refl
-frames_joined (m ∷ ms) ns = ap (λ (o : List ℕ). frame_of m ++ o) (frames_joined ms ns) ∙ sym (append_assoc (frame_of m) (frames_of ms) (frames_of ns))
-
-all_joined : (octets more : List ℕ) (ms ns : List Message) → AreFrames octets ms → AreFrames more ns → AreFrames (octets ++ more) (ms ++ ns)
-all_joined octets more [] ns none all = subst (λ (o : List ℕ). AreFrames o ns) (ap (λ (o : List ℕ). o ++ more) (sym none)) all
-all_joined octets more (m ∷ ms) ns first all = (first.0 ++ more, stands octets first.0 more m first.1, all_joined first.0 more ms ns first.2 all)
 
 -- ---- faults
 
@@ -129,18 +118,18 @@ module _ (name : List ℕ → List ℕ) (tag then : ℕ) (state next : State) (o
   going_more now last h = record {
     messages = g.messages ++ h.messages;
     requests = g.requests ++ h.requests;
-    read = all_joined octets octets_then g.messages h.messages g.read h.read;
-    whole = ap₂ (λ (a b : List ℕ). a ++ b) g.whole h.whole ∙ sym (frames_joined g.requests h.requests);
+    read = AreFrames-append octets octets_then g.messages h.messages g.read h.read;
+    whole = ap₂ (λ (a b : List ℕ). a ++ b) g.whole h.whole ∙ sym (frames-append g.requests h.requests);
     leads = λ later.
         ap (rounds name tag state) (append_assoc g.messages h.messages later) ∙ g.leads (h.messages ++ later) ∙ ap (asks g.requests) (h.leads later)
         ∙ asks_more g.requests h.requests (rounds name now last later);
   }
 
   whole_after : (all : Rounds) → sent_then ≡ frames_of all.requests → sent ++ sent_then ≡ frames_of (g.requests ++ all.requests)
-  whole_after all e = ap₂ (λ (a b : List ℕ). a ++ b) g.whole e ∙ sym (frames_joined g.requests all.requests)
+  whole_after all e = ap₂ (λ (a b : List ℕ). a ++ b) g.whole e ∙ sym (frames-append g.requests all.requests)
 
   prefix_after : (all : Rounds) → IsPrefix sent_then (frames_of all.requests) → IsPrefix (sent ++ sent_then) (frames_of (g.requests ++ all.requests))
-  prefix_after all p = (p.0, frames_joined g.requests all.requests ∙ ap₂ (λ (a b : List ℕ). a ++ b) (sym g.whole) p.1 ∙ sym (append_assoc sent sent_then p.0))
+  prefix_after all p = (p.0, frames-append g.requests all.requests ∙ ap₂ (λ (a b : List ℕ). a ++ b) (sym g.whole) p.1 ∙ sym (append_assoc sent sent_then p.0))
 
   answers_after : (all : Rounds) (behind : List ℕ) (left : Option (List ℕ)) (result : Result (List Told) PushFault) → Answers all sent_then behind left result → Answers (asks g.requests all) (sent ++ sent_then) behind left result
   answers_after all behind left (Ok told) h = record { whole = whole_after all h.whole; end_is = h.end_is; none = h.none }
@@ -154,7 +143,7 @@ module _ (name : List ℕ → List ℕ) (tag then : ℕ) (state next : State) (o
     ahead = octets ++ p.ahead;
     behind = p.behind;
     cut = ap (λ (o : List ℕ). octets ++ o) p.cut ∙ sym (append_assoc octets p.ahead p.behind);
-    read = all_joined octets p.ahead g.messages p.messages g.read p.read;
+    read = AreFrames-append octets p.ahead g.messages p.messages g.read p.read;
     answers = subst (λ (all : Rounds). Answers all (sent ++ sent_then) p.behind left result) (sym (g.leads p.messages)) (answers_after (rounds name then next p.messages) p.behind left result p.answers);
   }
 
