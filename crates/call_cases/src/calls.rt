@@ -1,8 +1,4 @@
 //! The calls on types and values, and their answers in print.
-ghost use Rattle.std.specs.Prelude.{◌≡◌};
-ghost use Rattle.type_trees.specs.Bridge.{type_shape};
-ghost use Rattle.try_construct.specs.Typed as spec;
-
 use crate::answers::Answer;
 use crate::cases::Case;
 use crate::samples::{body_read, sample_again, sample_read, told};
@@ -12,11 +8,12 @@ use crate::writing::{body_written, rep_of, sample_faults, sample_written, text_s
 use assignability::{equivalent, judge, judge_under};
 use dynamic_data::get;
 use same_types::same_type;
+use sample_types::is_top;
 use std::alloc::Global;
 use try_construct::project;
 use type_rules::{check_type, is_within_limits};
 use type_sizes::{TOO_MANY, capped_nodes, capped_weight, weight};
-use type_trees::{Member, Name, Named, StructType, Value, XType, as_map, as_struct, as_union};
+use type_trees::{Member, Name, Named, StructType, Value, XType, as_map, as_struct};
 use type_values::{base_of, copy_type, copy_value, default_value, has_same_keys, has_type};
 use xcdr_model::Policy;
 use xt_idl::{IdlFault, print};
@@ -236,12 +233,6 @@ fn equal(alloc: Global, case: &Case<'_>) -> Result<Answer, Trouble> {
     let reader = type_of(alloc, case.ty)?;
     let writer = type_of(alloc, case.writer)?;
     Ok(Answer::Is(equivalent(&reader, &writer)))
-}
-
-fn is_top(ty: &XType) -> bool
-    ensures { result ≡ spec.is_top (type_shape ty.now) }
-{
-    as_struct(ty).is_some() || as_union(ty).is_some()
 }
 
 fn projected(alloc: Global, case: &Case<'_>) -> Result<Answer, Trouble> {

@@ -3,10 +3,10 @@ use Rattle.std.specs.Prelude.{ℕ, Bool, true, false, List, [], ◌∷◌, ◌++
 use Rattle.std.specs.Fmt.{decimal}
 use Rattle.std.specs.Option.{option_map, option_and_then}
 use Rattle.std.specs.Str.{bytes_eq}
-use Rattle.xt_shapes.specs.Shape.{Shape, structure, union}
 use Rattle.type_trees.specs.declared.types.HashId.{HashId}
 use Rattle.type_trees.specs.Trees.{Tree}
 use Rattle.type_trees.specs.Bridge.{shape}
+use Rattle.sample_types.specs.Tops.{is_top}
 use Rattle.type_object.specs.Pools.{Texts, found}
 use Rattle.idl_types.specs.State as idl_types
 use Rattle.object_walks.specs.Resolving as walks
@@ -98,11 +98,6 @@ abbrev pub type_named : Reference → List Declared × Texts → Result Tree Ref
 type_named r front = type_meant r.word front.1 (meant r.form front)
 
 -- ---- tops
-
-abbrev pub is_top : Shape → Bool
-is_top (structure e ms) = true
-is_top (union e key disc cs) = true
-is_top t = false
 
 -- behind aliases the type is a structure or a union
 abbrev pub topped : List ℕ → Tree → Result (Unit {0}) Refusal

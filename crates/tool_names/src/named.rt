@@ -1,6 +1,7 @@
 ghost use Rattle.std.specs.Prelude.{◌≡◌, IfOk, IfSome, OnOk, map, true};
 ghost use Rattle.std.specs.Option.{option_map};
 ghost use Rattle.projection_laws.specs.Premises.{IsValid};
+ghost use Rattle.sample_types.specs.Tops.{is_top};
 ghost use Rattle.type_trees.specs.View.{tree};
 ghost use Rattle.type_trees.specs.Bridge.{type_shape};
 ghost use Rattle.tool_output.specs.Runs.{Comes};
@@ -12,6 +13,7 @@ ghost use Rattle.tool_names.specs.Meanings.{IsSound, meaning_view};
 use crate::meanings::{Meaning, meant};
 use crate::refusals::{refuse_name, refuse_top, refuse_walk};
 use object_walks::resolve;
+use sample_types::is_top;
 use std::alloc::Global;
 use tool_output::{Halt, Stop};
 use tool_types::Declared;
@@ -73,26 +75,9 @@ pub fn type_named(
     type_meant(alloc, reference.word, &meaning, pool)
 }
 
-#[tactic(auto, using(type_trees::proofs::Views::tree_rules))]
-fn is_top(ty: &XType) -> bool
-    ensures { result ≡ spec.is_top (type_shape ty.now) }
-{
-    match ty {
-        XType::Struct(_) | XType::Union(_) => true,
-        XType::Alias(kind) => is_top(&kind.ty),
-        XType::Prim(_)
-        | XType::Str(_)
-        | XType::Enum(_)
-        | XType::Mask(_)
-        | XType::Seq(_)
-        | XType::Array(_)
-        | XType::Map(_) => false,
-    }
-}
-
 fn topped(alloc: Global, word: &[u8], ty: &XType) -> Result<(), Stop>
     ensures comes { Comes (spec.topped word.now (tree ty.now)) (λ u. u) result }
-    ensures top { OnOk result (spec.is_top (type_shape ty.now) ≡ true) }
+    ensures top { OnOk result (is_top (type_shape ty.now) ≡ true) }
 {
     if is_top(ty) {
         Ok(())
@@ -111,7 +96,7 @@ pub fn top_named(
     requires { AllGood records.now }
     ensures comes { Comes (spec.top_named (reference_view reference.now) (map declared_view records.now, pool.now)) tree result }
     ensures valid { IfOk result IsValid }
-    ensures top { IfOk result (λ ty. spec.is_top (type_shape ty) ≡ true) }
+    ensures top { IfOk result (λ ty. is_top (type_shape ty) ≡ true) }
 {
     match type_named(alloc, reference, records, pool) {
         Err(stop) => Err(stop),

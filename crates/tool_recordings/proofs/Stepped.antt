@@ -5,7 +5,6 @@ use Rattle.std.specs.Option.{option_map}
 use Rattle.xt_io.specs.declared.Head.{Head}
 use Rattle.xt_io.specs.declared.Item.{Item}
 use Rattle.xt_io.specs.Bundles.{Bundle, before_bundle, item_of}
-use Rattle.xt_shapes.specs.Shape.{Shape, prim, str, enumeration, bitmask, sequence, array, map_of, structure, union}
 use Rattle.type_trees.specs.Trees.{Tree}
 use Rattle.type_object.specs.declared.pool.PoolFault.TheVariants as P
 use Rattle.type_object.specs.Pools as pools
@@ -27,18 +26,6 @@ use Rattle.tool_output.proofs.Written.{stops_here}
 use Rattle.tool_names.specs.Names as names
 use Rattle.tool_recordings.specs.Replaying.{answer_lines, replay_refusal, stepped, replay_turn, replayed}
 use Rattle.tool_recordings.specs.Stopping.{ReplayStops}
-
--- both definitions of a structure or union say the same
-pub tops_agree : (t : Shape) → names.is_top t ≡ replays.is_top t
-tops_agree (prim p) = refl
-tops_agree (str bound) = refl
-tops_agree (enumeration e bits ls) = refl
-tops_agree (bitmask bits fs) = refl
-tops_agree (sequence bound tc t) = refl
-tops_agree (array dims tc t) = refl
-tops_agree (map_of bound kc k vc t) = refl
-tops_agree (structure e ms) = refl
-tops_agree (union e key disc cs) = refl
 
 -- ---- one record
 

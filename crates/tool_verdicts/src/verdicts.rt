@@ -7,7 +7,7 @@ ghost use Rattle.tool_front.specs.Reading.{AreWithin};
 ghost use Rattle.tool_lines.specs.Lines as lines;
 ghost use Rattle.tool_words.specs.View.{pair_view, reference_view};
 ghost use Rattle.tool_names.specs.Identified.{Resolves};
-ghost use Rattle.tool_names.specs.Names.{is_top};
+ghost use Rattle.sample_types.specs.Tops.{is_top};
 ghost use Rattle.tool_types.specs.Declaring.{AllGood, declared_view};
 ghost use Rattle.tool_names.specs.Names as names;
 ghost use Rattle.tool_verdicts.specs.Verdicts as spec;

@@ -1,7 +1,8 @@
 ghost use Rattle.std.specs.Prelude.{◌≡◌, IfOk, IsTrue};
 ghost use Rattle.projection_laws.specs.Premises.{IsValid, IsYes};
 ghost use Rattle.settled_parts.specs.Settling.{outcome_val};
-ghost use Rattle.try_construct.specs.Typed.{IsTyped, is_top};
+ghost use Rattle.sample_types.specs.Tops.{is_top};
+ghost use Rattle.try_construct.specs.Typed.{IsTyped};
 ghost use Rattle.type_trees.specs.Bridge.{type_shape};
 ghost use Rattle.type_trees.specs.View.{val};
 ghost use Rattle.xcdr_model.specs.declared.verdict.Policy.{Policy};

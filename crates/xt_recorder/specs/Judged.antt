@@ -3,12 +3,12 @@ use Rattle.std.specs.Prelude.{◌≡◌, Option, Some, None, Result, Ok, Err, if
 use Rattle.xt_shapes.specs.declared.leaves.Rep.{Rep}
 use Rattle.type_trees.specs.Trees.{Tree}
 use Rattle.type_trees.specs.Bridge.{shape}
+use Rattle.sample_types.specs.Tops.{is_top}
 use Rattle.type_object.specs.Pools.{Texts}
 use Rattle.object_walks.specs.Resolving.{Refusal, resolved}
 use Rattle.assignability.specs.Views.{verdict_view}
 use Rattle.xcdr_model.specs.Failure.{First, first_failure}
 use Rattle.xcdr_model.specs.Policies.{standard}
-use Rattle.xt_recorder.specs.Replays.{is_top}
 use Rattle.xt_recorder.specs.declared.found.Found.{Found}
 
 -- what is found of a structure or union: the first rule that fails

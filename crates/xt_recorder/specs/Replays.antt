@@ -1,10 +1,10 @@
 -- What a reader makes of recordings, record by record (this profile's own).
 use Rattle.std.specs.Prelude.{ℕ, Bool, true, false, List, [], ◌∷◌, Option, Some, None, Result, Ok, Err, if◌then◌else◌}
 use Rattle.xt_shapes.specs.declared.leaves.Rep.{Rep}
-use Rattle.xt_shapes.specs.Shape.{Shape, prim, str, enumeration, bitmask, sequence, array, map_of, structure, union}
 use Rattle.type_trees.specs.declared.types.HashId.{HashId}
 use Rattle.type_trees.specs.Trees.{Tree}
 use Rattle.type_trees.specs.Bridge.{shape}
+use Rattle.sample_types.specs.Tops.{is_top}
 use Rattle.xt_io.specs.declared.Item.{Item}
 use Rattle.xt_io.specs.declared.Kind.{Kind}
 use Rattle.xt_io.specs.declared.Kind.TheVariants.{Object, Sample, Idl, Json, Note}
@@ -46,17 +46,6 @@ pub data Refusal : Type 0 where
 -- an answer and the state after it
 abbrev pub Step : Type 0
 Step = Result (Answer × State) Refusal
-
-abbrev pub is_top : Shape → Bool
-is_top (prim p) = false
-is_top (str bound) = false
-is_top (enumeration e bits ls) = false
-is_top (bitmask bits fs) = false
-is_top (sequence bound tc t) = false
-is_top (array dims tc t) = false
-is_top (map_of bound kc k vc t) = false
-is_top (structure e ms) = true
-is_top (union e key disc cs) = true
 
 abbrev pub is_yes : First → Bool
 is_yes None = true

@@ -3,6 +3,7 @@ ghost use Rattle.std.specs.Prelude.{◌≡◌, IfOk, IfErr, IfSome, OnErr, OnOk,
 ghost use Rattle.type_trees.specs.Bridge.{type_shape};
 ghost use Rattle.type_trees.specs.View.{tree};
 ghost use Rattle.projection_laws.specs.Premises.{IsValid};
+ghost use Rattle.sample_types.specs.Tops.{is_top};
 ghost use Rattle.xt_recorder.specs.Replays as spec;
 ghost use Rattle.assignability.specs.Views.{verdict_view};
 ghost use Rattle.type_object.specs.Faults as pool_faults;
@@ -21,10 +22,11 @@ use crate::replayer::{Replayer, Stream};
 use crate::streams::stream_of;
 use assignability::{Verdict, judge};
 use object_walks::{ResolveFault, resolve};
+use sample_types::is_top;
 use std::alloc::Global;
 use type_object::{Pool, PoolFault};
 use type_rules::is_within_limits;
-use type_trees::{HashId, XType, as_struct, as_union};
+use type_trees::{HashId, XType};
 use wire_cursor::{DecodeFault, SliceCursor};
 use xcdr_samples::read_sample;
 use xt_io::{Item, Kind};
@@ -39,17 +41,11 @@ fn is_yes(verdict: &Verdict) -> bool
     }
 }
 
-fn is_top(ty: &XType) -> bool
-    ensures { result ≡ spec.is_top (type_shape ty.now) }
-{
-    as_struct(ty).is_some() || as_union(ty).is_some()
-}
-
 impl Replayer {
     /// A reader of recordings, with the objects of a pool. It takes no memory.
     pub fn new(reader: XType, pool: Pool) -> Replayer
         requires valid { IsValid reader }
-        requires top { spec.is_top (type_shape reader) ≡ true }
+        requires top { is_top (type_shape reader) ≡ true }
         ensures reader { reader_of result ≡ tree reader }
         ensures state { state_of result ≡ record { pool = pool; stream = None } }
     {
