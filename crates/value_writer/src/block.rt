@@ -56,14 +56,15 @@ impl Block {
         self.count += size as usize;
     }
 
-    /// Appends the low `size` octets of a number, the lowest first: all sixteen are written at once, and those behind are written over.
+    /// Appends the low `size` octets of a number, the lowest first: eight are written at once, and those behind are written over.
     #[inline(always)]
     fn add_low(&mut self, size: u32, number: u128)
         requires size { IsUnit size }
         requires room { length self.old ≤ 496 }
         ensures { self.new ≡ self.old ++ low_octets size number }
     {
-        LittleEndian::write_u128(&mut self.octets[self.count..self.count + 16], number);
+        let low = (number % 18_446_744_073_709_551_616) as u64;
+        LittleEndian::write_u64(&mut self.octets[self.count..self.count + 8], low);
         self.count += size as usize;
     }
 

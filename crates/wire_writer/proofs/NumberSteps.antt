@@ -1,9 +1,11 @@
 -- The octets of numbers, one after another.
-use Rattle.std.proofs.Common.{◌≡◌, refl, sym, ap, ◌∙◌, ℕ, zero, suc, ◌+◌, ◌-◌, ◌/◌, ◌%◌, ◌≤◌, ◌<◌, ◌^◌, List, ◌∷◌, length, reverse, arith, set, take, inl, inr, ℤ, pos, negsuc, int_le, true, false, rules, lit<, get_or, get_or-take, length-take}
+use Rattle.std.proofs.Common.{◌≡◌, refl, sym, ap, ◌∙◌, ℕ, zero, suc, ◌+◌, ◌-◌, ◌*◌, ◌/◌, ◌%◌, ◌≤◌, ◌<◌, ◌^◌, List, ◌∷◌, length, reverse, arith, set, take, inl, inr, ℤ, pos, negsuc, int_le, true, false, rules, lit<, get_or, get_or-take, length-take}
 use Rattle.std.proofs.lemmas.List.{length-reverse, take_more_set, take_more, get_or-reverse}
 use Rattle.std.specs.Prelude.{nat_abs}
 use Rattle.std.specs.Int.{byte_at, bytes_low_first}
-use Rattle.std.proofs.Math.Nat.{div-one, div-div-eq-div-mul, pow-suc}
+use Rattle.std.proofs.Math.Nat.{div-one, div-div-eq-div-mul, pow-suc, one-le-pow}
+use Rattle.std.proofs.lemmas.Nat.{div-mul-add, mod-mul-add}
+use lib.Arith.{mod-mul}
 use Rattle.xt_shapes.specs.declared.leaves.Order.{Order}
 use Rattle.xt_shapes.specs.declared.leaves.Order.TheVariants.{Big, Little}
 use Rattle.xcdr_model.specs.Numbers.{low_octets, octets, raw}
@@ -37,9 +39,19 @@ take_low zero k n le = refl
 take_low (suc size) zero n le = absurd (omega arith)
 take_low (suc size) (suc k) n le = ap (λ (l : List ℕ). n % 256 ∷ l) (take_low size k (n / 256) (omega arith))
 
--- the front of a number's octets
-pub low_front : (size n : ℕ) → IsUnit size → take size (bytes_low_first 0 16 n) ≡ low_octets size n
-low_front size n is = ap (λ (l : List ℕ). take size l) (low_first 0 16 n ∙ ap (λ (m : ℕ). low_octets 16 m) (div-one n)) ∙ take_low size 16 n (omega (arith, unit_small size is))
+-- the front of a number's octets, of which there are so many
+pub low_front : (width size n : ℕ) → size ≤ width → take size (bytes_low_first 0 width n) ≡ low_octets size n
+low_front width size n le = ap (λ (l : List ℕ). take size l) (low_first 0 width n ∙ ap (λ (m : ℕ). low_octets width m) (div-one n)) ∙ take_low size width n le
+
+-- Octets are those of the rest by a power of 256 as well.
+pub low_rest : (size k n : ℕ) → size ≤ k → low_octets size (n % 256 ^ k) ≡ low_octets size n
+low_rest zero k n le = refl
+low_rest (suc size) zero n le = absurd (omega arith)
+low_rest (suc size) (suc k) n le =
+    let above = n / 256 % 256 ^ k in
+    let small : n % 256 < 256 = omega arith in
+    let is : n % 256 ^ suc k ≡ above * 256 + n % 256 = ap (λ (m : ℕ). n % m) (pow-suc 256 k) ∙ mod-mul n (one-le-pow k 256 (omega arith)) (omega arith) in
+    rw (is, mod-mul-add above 256 (n % 256) small, div-mul-add above 256 (n % 256) small) (ap (λ (l : List ℕ). n % 256 ∷ l) (low_rest size k (n / 256) (omega (arith, le))))
 
 -- ---- from the high end
 

@@ -4,7 +4,7 @@ use Rattle.type_trees.specs.View.{val}
 use Rattle.xcdr_model.specs.Numbers.{octets, raw}
 use Rattle.xcdr_model.specs.FixedSpelling.{then_fixed}
 use Rattle.xt_shapes.specs.Vals.{number_in}
-use Rattle.wire_writer.proofs.Puts.{begins, goes_on, last, fails, left_as, same_puts, within, whole}
+use Rattle.wire_writer.proofs.Puts.{begins, goes_on, last, fails, left_as, within, whole}
 use Rattle.value_writer.specs.Runs.{digits_of}
 use Rattle.value_writer.proofs.Parts.{next_val, no_more_vals}
 use Rattle.value_writer.proofs.RunSteps.{block_parts, block_more}
@@ -15,19 +15,18 @@ loop-value-init g c limit = begins limit _ _ c.args.out.now (λ p. rw c.new-bloc
 
 pub returns-in_err-make_room : goal.returns-in_err-make_room
 returns-in_err-make_room g c =
-    let o = c.order-order.result in
+    let o = c.args.order in
     let size = c.args.size in
     let rest = map val (drop c.loop-value.value-index c.args.values.now) in
     let f = c.in_err-make_room.ensures in
     let e = err_from_is_err_and c.from_residual.result c.from_residual.ensures.1 in
-    same_puts (λ p. digits_of c.args.out.now.order size (map val c.args.values.now)) (λ p. digits_of o size (map val c.args.values.now)) (λ p at. ap (λ k. digits_of k size (map val c.args.values.now)) (sym c.order-order.ensures))
-    (whole (λ limit.
+    whole (λ limit.
     let u = left_as (λ p. c.loop-value.block ++ digits_of o size rest) (then_fixed (λ q. f.done) (λ q. f.rest ++ digits_of o size rest)) (λ p. block_parts o size c.loop-value.block f.done f.rest rest p f.parts) (c.loop-value.invariant limit) in
-    rw e.1 (fails (λ q. f.done) (λ q. f.rest ++ digits_of o size rest) u (within f.put))))
+    rw e.1 (fails (λ q. f.done) (λ q. f.rest ++ digits_of o size rest) u (within f.put)))
 
 pub loop-value-preserved : goal.loop-value-preserved
 loop-value-preserved g c limit =
-    let o = c.order-order.result in
+    let o = c.args.order in
     let size = c.args.size in
     let i = c.loop-value.value-index in
     let v = c.value-item.result in
@@ -45,11 +44,10 @@ loop-value-preserved g c limit =
 
 pub returns : goal.returns
 returns g c =
-    let o = c.order-order.result in
+    let o = c.args.order in
     let size = c.args.size in
     let rest = map val (drop c.loop-value.value-index c.args.values.now) in
     let none : rest ≡ [] = no_more_vals c.args.values.now c.loop-value.value-index c.loop-value-test.false in
-    same_puts (λ p. digits_of c.args.out.now.order size (map val c.args.values.now)) (λ p. digits_of o size (map val c.args.values.now)) (λ p at. ap (λ k. digits_of k size (map val c.args.values.now)) (sym c.order-order.ensures))
-    (whole (λ limit.
+    whole (λ limit.
     let u = left_as (λ p. c.loop-value.block ++ digits_of o size rest) (λ p. c.octets.result.now) (λ p. ap (λ vs. c.loop-value.block ++ digits_of o size vs) none ∙ append-nil c.loop-value.block ∙ sym c.octets.ensures) (c.loop-value.invariant limit) in
-    last (λ p. c.octets.result.now) u (within c.put.ensures)))
+    last (λ p. c.octets.result.now) u (within c.put.ensures))

@@ -31,4 +31,4 @@ returns g c =
     whole (λ limit.
     let u = begins limit (run_fixed c.args.most o c.args.size (map val c.args.values.now)) (then_fixed (padding_fixed c.min.result) rest) c.args.out.now (λ p. rw c.min.ensures (some_run c.args.most o c.args.size c.args.values.now p some c.requires.most c.requires.size)) in
     last rest (goes_on (padding_fixed c.min.result) rest u (within c.in_ok-align.ensures))
-    (within (same_puts rest (λ q. digits_of c.align.new.self.order c.args.size (map val c.args.values.now)) (λ p at. ap (λ k. digits_of k c.args.size (map val c.args.values.now)) (sym c.align.ensures.keeps.order)) c.put_digits.ensures)))
+    (within (same_puts rest (λ q. digits_of c.align.new.self.order c.args.size (map val c.args.values.now)) (λ p at. ap (λ k. digits_of k c.args.size (map val c.args.values.now)) (sym c.align.ensures.keeps.order)) c.put_sized.ensures)))

@@ -1,5 +1,6 @@
-use Rattle.std.proofs.Common.{◌≡◌, ◌++◌, ◌∙◌, [], append-nil}
+use Rattle.std.proofs.Common.{◌≡◌, ◌++◌, ◌∙◌, [], append-nil, arith}
 use Rattle.std.specs.Int.{bytes_low_first}
+use Rattle.wire_numbers.proofs.UnitSteps.{unit_small}
 use Rattle.wire_writer.proofs.NumberSteps.{low_front}
 use Rattle.wire_writer.proofs.digits.low_octets.Goals as goal
 
@@ -7,4 +8,4 @@ pub returns : goal.returns
 returns c =
     let written : c.write_u128.new.buf ≡ bytes_low_first 0 16 c.args.number ++ [] = c.write_u128.ensures in
     let is : c.write_u128.new.buf ≡ bytes_low_first 0 16 c.args.number = written ∙ append-nil (bytes_low_first 0 16 c.args.number) in
-    rw is (low_front c.args.size c.args.number c.requires)
+    rw is (low_front 16 c.args.size c.args.number (omega (arith, unit_small c.args.size c.requires)))

@@ -7,6 +7,6 @@ returns c =
     let view : take c.self.inside.count c.self.inside.octets ≡ c.args.self.now = c.self.view_is in
     let within : c.self.inside.count ≤ length c.self.inside.octets = search rules in
     let copied : c.copy_from_slice.new.self ≡ c.args.octets.now = search rules in
-    number_added c.self.inside.count c.args.size _ c.self.inside.octets c.copy_from_slice.new.self c.requires.size within (ap length copied ∙ search rules)
+    number_added c.self.inside.count c.args.size 16 _ c.self.inside.octets c.copy_from_slice.new.self c.requires.size within (ap length copied ∙ search rules)
     ∙ ap (λ (l : List ℕ). take c.self.inside.count c.self.inside.octets ++ take c.args.size l) copied
     ∙ ap (λ (l : List ℕ). l ++ take c.args.size c.args.octets.now) view

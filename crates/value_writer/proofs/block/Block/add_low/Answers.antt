@@ -11,8 +11,8 @@ returns c =
     let view : take c.self.inside.count c.self.inside.octets ≡ c.args.self.now = c.self.view_is in
     let within : c.self.inside.count ≤ length c.self.inside.octets = search rules in
     let small : size ≤ 8 = unit_small size c.requires.size in
-    let long : length c.write_u128.new.buf ≡ 16 = search rules in
-    let front : take size c.write_u128.new.buf ≡ low_octets size n = low_part size n c.write_u128.new.buf _ c.requires.size c.write_u128.ensures in
-    number_added c.self.inside.count size _ c.self.inside.octets c.write_u128.new.buf (omega arith) within long
+    let long : length c.write_u64.new.buf ≡ 8 = search rules in
+    let front : take size c.write_u64.new.buf ≡ low_octets size n = low_part size n c.write_u64.new.buf _ c.requires.size c.write_u64.ensures in
+    number_added c.self.inside.count size 8 _ c.self.inside.octets c.write_u64.new.buf small within long
     ∙ ap (λ (l : List ℕ). take c.self.inside.count c.self.inside.octets ++ l) front
     ∙ ap (λ (l : List ℕ). l ++ low_octets size n) view
