@@ -94,6 +94,21 @@ fn however_the_octets_are_cut(rt: HostRuntime) -> Result<(), Fail> {
 }
 
 #[test]
+fn a_payload_that_is_cut(rt: HostRuntime) -> Result<(), Fail> {
+    let mut octets = [0u8; 12];
+    let mut cursor = first_payload(MemSource::new(&BUNDLE[..15], 3, &[])).ok_or("no head")?;
+    assert_eq!(rt; cursor.take(&mut octets[..8]), Ok(()));
+    assert_eq!(rt; cursor.take(&mut octets[..3]), Err(CutFault::Fault));
+    assert_eq!(rt; cursor.pass(1), Err(CutFault::Fault));
+    let cut = RecordFault::Truncated {
+        at: 0,
+        kind: Kind::Sample,
+    };
+    assert_eq!(rt; cursor.end().next_head(), Err(cut));
+    Ok(())
+}
+
+#[test]
 fn a_source_that_fails(rt: HostRuntime) -> Result<(), Fail> {
     let mut octets = [0u8; 12];
     let mut cursor = first_payload(MemSource::new(BUNDLE, 7, &[4])).ok_or("no head")?;

@@ -1,5 +1,7 @@
-//! A fetch from the service itself.
-ghost use Rattle.std.specs.Prelude.{◌≡◌};
+//! Fetches from the service itself.
+ghost use Rattle.std.specs.Prelude.{◌≡◌, IfOk};
+ghost use Rattle.std.specs.List.{All};
+ghost use Rattle.lookup_messages.specs.Spelling.{IsKnownId};
 
 use crate::objects::{COLOR, alone};
 use crate::pushes::tells;
@@ -11,7 +13,7 @@ use std::test::Fail;
 use type_object::hash_of;
 use type_registry::{Md5Naming, Registry};
 use type_trees::HashId;
-use xt_lists::{Row, Text};
+use xt_lists::{OutOfMemory, Row, Text};
 
 fn fetch_one(alloc: Global, peer: &mut LoopLink<'_>, id: HashId) -> Result<Row<Fetched>, FetchFault>
     requires { id.kind ≡ 241 }
@@ -45,5 +47,31 @@ fn what_was_pushed_is_fetched(rt: HostRuntime) -> Result<(), Fail> {
     let fetched = fetch_text(alloc, &mut taker, id).expect(&rt, "it is fetched");
     assert_eq!(rt; fetched.octets(), &COLOR[..]);
     assert_eq!(rt; taker.octets().len(), 32);
+    Ok(())
+}
+
+// So many identifiers.
+fn strangers(alloc: Global, count: u16) -> Result<Row<HashId>, OutOfMemory>
+    ensures { IfOk result (All IsKnownId) }
+{
+    let mut ids = Row::new(alloc);
+    for number in 0..count {
+        let mut hash = [0; 14];
+        hash[..2].copy_from_slice(&number.to_le_bytes());
+        ids.push(HashId { kind: 0xF1, hash })?;
+    }
+    Ok(ids)
+}
+
+// Nothing is sent where more identifiers are wanted than a fetch meets.
+#[test]
+fn too_many_are_not_asked_for(rt: HostRuntime) -> Result<(), Fail> {
+    let alloc = rt.alloc();
+    let registry: Registry<Md5Naming> = Registry::new(alloc);
+    let ids = strangers(alloc, 4097).expect(&rt, "memory");
+    let mut peer = LoopLink::new(alloc, &registry, 50);
+    let fault = fetch(alloc, &mut peer, ids.as_slice()).err();
+    assert_eq!(rt; fault, Some(FetchFault::TooMany));
+    assert!(rt; peer.octets().is_empty());
     Ok(())
 }

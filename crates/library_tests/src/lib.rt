@@ -19,6 +19,8 @@ mod namings;
 #[cfg(test)]
 mod objects;
 #[cfg(test)]
+mod pairs;
+#[cfg(test)]
 mod pushes;
 #[cfg(test)]
 mod registries;
