@@ -2,6 +2,8 @@
 #include <stdio.h>
 #include <stdlib.h>
 #include <string.h>
+#include <sys/syscall.h>
+#include <unistd.h>
 
 extern void *__libc_malloc(size_t);
 extern void *__libc_realloc(void *, size_t);
@@ -22,7 +24,7 @@ void *realloc(void *block, size_t size) {
     return ++requests == refused ? NULL : __libc_realloc(block, size);
 }
 
-__attribute__((destructor)) static void end(void) {
+__attribute__((destructor)) static void tell(void) {
     unsigned long count = requests;
     const char *name = getenv("REQUESTS");
     FILE *file = name ? fopen(name, "w") : NULL;
@@ -31,4 +33,11 @@ __attribute__((destructor)) static void end(void) {
         fprintf(file, "%lu\n", count);
         fclose(file);
     }
+}
+
+/* The program ends here, where no destructor runs. */
+void _exit(int status) {
+    tell();
+    syscall(SYS_exit_group, status);
+    __builtin_unreachable();
 }
