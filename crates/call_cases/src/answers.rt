@@ -5,7 +5,7 @@ use assignability::Verdict;
 use std::alloc::{AllocError, Global};
 use std::fmt;
 use type_rules::TypeFault;
-use wire_cursor::DecodeFault;
+use xt_wire::cursor::DecodeFault;
 
 /// What a call gives. It is printed to be compared with what is wanted.
 #[derive(Drop)]

@@ -7,13 +7,13 @@ use crate::values::{given_value, json_of, pairs_of, string_of, type_of, types_of
 use crate::writing::{body_written, rep_of, sample_faults, sample_written, text_size};
 use assignability::{equivalent, judge, judge_under};
 use dynamic_data::get;
-use same_types::same_type;
-use sample_types::is_top;
 use std::alloc::Global;
 use try_construct::project;
 use type_rules::{check_type, is_within_limits};
-use type_sizes::{TOO_MANY, capped_nodes, capped_weight, weight};
+use type_trees::samples::is_top;
+use type_trees::sizes::{TOO_MANY, capped_nodes, capped_weight, weight};
 use type_trees::{Member, Name, Named, StructType, Value, XType, as_map, as_struct};
+use type_values::same::same_type;
 use type_values::{base_of, copy_type, copy_value, default_value, has_same_keys, has_type};
 use xcdr_model::Policy;
 use xt_idl::{IdlFault, print};

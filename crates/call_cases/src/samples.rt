@@ -11,12 +11,12 @@ use crate::writing::{hex_of, rep_of, sample_octets};
 use settled_parts::Outcome;
 use std::alloc::Global;
 use type_trees::XType;
-use wire_cursor::{Cursor, DecodeFault, SliceCursor};
-use wire_streams::StreamCursor;
 use xcdr_reader::{decode1, decode2};
 use xcdr_samples::{read_sample1, read_sample2};
 use xt_io::{BundleReader, Kind, MemSink, MemSource, write_record};
 use xt_shapes::{Order, Rep};
+use xt_wire::cursor::{Cursor, DecodeFault, SliceCursor};
+use xt_wire::streams::StreamCursor;
 
 /// The most octets of a record.
 const MOST_OCTETS: usize = 1_048_576;

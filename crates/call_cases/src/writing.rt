@@ -11,11 +11,13 @@ use crate::trouble::Trouble;
 use crate::values::{type_of, value_of};
 use std::alloc::Global;
 use type_trees::{Value, XType};
-use wire_writer::Writer;
-use xcdr_written::{encode_value, encode1, encode2, size1, size2, write_sample1, write_sample2};
+use xcdr_writer::written::{
+    encode_value, encode1, encode2, size1, size2, write_sample1, write_sample2,
+};
 use xt_io::{Failed, MemSink, Sink};
 use xt_lists::{OutOfMemory, Text};
 use xt_shapes::{Order, Rep};
+use xt_wire::writer::Writer;
 
 fn order_named(word: &str) -> Result<Order, Trouble> {
     match word {

@@ -6,9 +6,9 @@ use Rattle.std.proofs.lemmas.Slice.Eq.{bytes_eq-Decides}
 use Rattle.type_trees.specs.declared.types.Name.{Name}
 use Rattle.type_trees.specs.declared.types.Name.TheVariants as name_of
 use Rattle.type_trees.specs.declared.types.Literal.{Literal}
-use Rattle.idl_names.specs.declared.scopes.Meaning.{Meaning}
-use Rattle.idl_names.specs.declared.scopes.Meaning.TheVariants as meaning_of
-use Rattle.idl_names.specs.Scopes.{Names, meaning, with_absent}
+use Rattle.idl_tokens.specs.declared.names.scopes.Meaning.{Meaning}
+use Rattle.idl_tokens.specs.declared.names.scopes.Meaning.TheVariants as meaning_of
+use Rattle.idl_tokens.specs.names.Scopes.{Names, meaning, with_absent}
 use Rattle.idl_definitions.specs.Unions.{is_named, value_named}
 use Rattle.idl_definitions.specs.LiteralNames.{first_named, with_literal, Indexes}
 

@@ -4,9 +4,9 @@ use Rattle.type_trees.specs.declared.types.Name.{Name}
 use Rattle.type_trees.specs.declared.types.Name.TheVariants as name_of
 use Rattle.type_trees.specs.declared.types.Literal.{Literal}
 use Rattle.idl_tokens.specs.Classes.{Text}
-use Rattle.idl_names.specs.declared.scopes.Meaning.{Meaning}
-use Rattle.idl_names.specs.declared.scopes.Meaning.TheVariants as meaning_of
-use Rattle.idl_names.specs.Scopes.{Names, meaning, with_name}
+use Rattle.idl_tokens.specs.declared.names.scopes.Meaning.{Meaning}
+use Rattle.idl_tokens.specs.declared.names.scopes.Meaning.TheVariants as meaning_of
+use Rattle.idl_tokens.specs.names.Scopes.{Names, meaning, with_name}
 use Rattle.idl_definitions.specs.Unions.{is_named}
 
 -- the place of the first literal of a name, where the first literal of all has the place `at`

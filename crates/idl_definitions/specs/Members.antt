@@ -10,7 +10,7 @@ use Rattle.xt_annotations.specs.declared.places.Setting.{Setting}
 use Rattle.xt_annotations.specs.Places.{has as has_setting}
 use Rattle.xt_annotations.specs.Members.{with_notes}
 use Rattle.idl_tokens.specs.Classes.{Text}
-use Rattle.idl_names.specs.Sets.{has}
+use Rattle.idl_tokens.specs.names.Sets.{has}
 use Rattle.idl_input.specs.declared.faults.IdlFault.TheVariants as fault
 use Rattle.idl_input.specs.Input.{Parser, ◌>>=◌, ◌>>◌, pure, refuse, here, eat, want, name, bound, notes_at, turns}
 use Rattle.idl_types.specs.State.{State}

@@ -6,7 +6,7 @@ use Rattle.type_trees.specs.declared.types.Base.{Base}
 use Rattle.type_trees.specs.Trees.{StructHead, Tree, prim, str, enumeration, bitmask, sequence, array, map_of, structure, union, alias, Members, no_members, member}
 use Rattle.type_trees.specs.View.{members_of}
 use Rattle.idl_tokens.specs.Classes.{Text}
-use Rattle.idl_names.specs.Scopes.{meaning}
+use Rattle.idl_tokens.specs.names.Scopes.{meaning}
 use Rattle.idl_input.specs.declared.faults.IdlFault.TheVariants as fault
 use Rattle.idl_input.specs.Input.{Parser, ◌>>=◌, ◌>>◌, pure, here, place, eat, want, name, take_token, sees}
 use Rattle.idl_types.specs.State.{State}

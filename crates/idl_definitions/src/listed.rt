@@ -1,6 +1,6 @@
 ghost use Rattle.std.specs.Prelude.{pos, ◌+ℤ◌, ◌≤ℤ◌};
 
-use idl_names::NameSet;
+use idl_tokens::names::NameSet;
 use type_trees::Literal;
 use xt_lists::Row;
 

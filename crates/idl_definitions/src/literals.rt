@@ -2,7 +2,7 @@ ghost use Rattle.std.specs.Prelude.{◌≡◌, OnOk, IfOk};
 ghost use Rattle.idl_definitions.specs.LiteralNames as spec;
 ghost use Rattle.idl_definitions.specs.Unions.{value_named};
 
-use idl_names::{Meaning, ScopedNames};
+use idl_tokens::names::{Meaning, ScopedNames};
 use std::alloc::Global;
 use std::marker::Model;
 use type_trees::{Literal, Name};

@@ -1,6 +1,6 @@
 ghost use Rattle.std.specs.Prelude.{◌≡◌, ◌<◌, ◌^◌, ◌||◌, [], false, IfOk};
 ghost use Rattle.type_trees.specs.View.{tree, member_tree};
-ghost use Rattle.idl_names.specs.Sets.{has as taken};
+ghost use Rattle.idl_tokens.specs.names.Sets.{has as taken};
 ghost use Rattle.idl_input.specs.Input.{Reads};
 ghost use Rattle.idl_types.specs.Views.{state};
 ghost use Rattle.idl_definitions.specs.Lists.{with_commas};
@@ -8,7 +8,7 @@ ghost use Rattle.idl_definitions.specs.Members as spec;
 ghost use Rattle.idl_definitions.specs.Views as view;
 
 use idl_input::{IdlFault, Tokens};
-use idl_names::NameSet;
+use idl_tokens::names::NameSet;
 use idl_types::{Reader, a_type, boxed};
 use std::alloc::Global;
 use type_trees::{ArrayType, Elem, Member, Name, XType, hash_id};

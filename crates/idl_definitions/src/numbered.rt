@@ -1,6 +1,6 @@
 ghost use Rattle.std.specs.Prelude.{◌≡◌, ◌≤◌, ◌+◌, [], pos, ◌+ℤ◌, ◌≤ℤ◌, false, IfOk};
 ghost use Rattle.type_trees.specs.View.{tree};
-ghost use Rattle.idl_names.specs.Sets.{has as taken};
+ghost use Rattle.idl_tokens.specs.names.Sets.{has as taken};
 ghost use Rattle.idl_input.specs.Input.{Reads};
 ghost use Rattle.idl_types.specs.Views.{state};
 ghost use Rattle.idl_definitions.specs.Lists.{with_commas};
@@ -12,7 +12,7 @@ use crate::made::{Made, defined, new_type};
 use crate::members::new_name;
 use crate::settings::{Settings, settings_of};
 use idl_input::{IdlFault, Tokens};
-use idl_names::NameSet;
+use idl_tokens::names::NameSet;
 use idl_types::{Reader, boxed};
 use std::alloc::Global;
 use type_trees::{EnumType, Flag, Literal, MaskType, Name, XType};

@@ -12,7 +12,7 @@ use crate::made::{Made, defined, new_type};
 use crate::members::{Listed, dimensioned, members_of_type};
 use crate::settings::Settings;
 use idl_input::{IdlFault, Tokens};
-use idl_names::NameSet;
+use idl_tokens::names::NameSet;
 use idl_types::{Reader, a_type, boxed, type_by_name};
 use std::alloc::Global;
 use type_trees::{AliasType, Base, Member, StructType, XType};

@@ -1,6 +1,6 @@
 ghost use Rattle.std.specs.Prelude.{◌≡◌, [], map, pos, slice_index, false, IfOk};
 ghost use Rattle.type_trees.specs.View.{tree, case_tree, member_tree};
-ghost use Rattle.idl_names.specs.Sets.{has as taken};
+ghost use Rattle.idl_tokens.specs.names.Sets.{has as taken};
 ghost use Rattle.idl_input.specs.Input.{Reads};
 ghost use Rattle.idl_types.specs.Views.{state};
 ghost use Rattle.idl_definitions.specs.Lists.{to_brace};
@@ -12,7 +12,7 @@ use crate::made::{Made, defined, new_type};
 use crate::members::{new_name, shaped};
 use crate::settings::{Settings, settings_of};
 use idl_input::{IdlFault, Tokens};
-use idl_names::NameSet;
+use idl_tokens::names::NameSet;
 use idl_tokens::{TokenKind, signed_32};
 use idl_types::{Reader, a_type, boxed, scoped_name};
 use std::alloc::Global;

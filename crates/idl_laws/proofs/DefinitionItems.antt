@@ -32,7 +32,7 @@ use Rattle.idl_printer.specs.Lines.{bits_text, aggregate_notes, base_text, last_
 use Rattle.xt_idl.specs.Leading.{site_of}
 use Rattle.xt_idl.specs.Whole.{definition_or_module, definition_by, typed}
 use Rattle.idl_laws.specs.Printable.{IsDefinition, IsTyped, literal_fits, is_spelled}
-use Rattle.rule_laws.proofs.Nodes.{at_and_below, no_fault}
+use Rattle.type_rules.proofs.OfFaultless.Nodes.{at_and_below, no_fault}
 use Rattle.idl_laws.proofs.Fronts.{Front, front_at, skip_blank, skip_short, skip_solid, word_front, mark_front}
 use Rattle.idl_laws.proofs.Steps.{Reads, not_seen}
 use Rattle.idl_laws.proofs.NoteTexts.{is_told, note_text, notes_text, notes_of}

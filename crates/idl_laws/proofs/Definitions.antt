@@ -7,7 +7,7 @@ use Rattle.type_rules.specs.Places.{depth}
 use Rattle.idl_tokens.specs.declared.tokens.TokenKind.TheVariants.{Word}
 use Rattle.idl_tokens.specs.Classes.{Text}
 use Rattle.idl_tokens.specs.Tokens.{skip}
-use Rattle.idl_names.specs.Scopes.{meaning}
+use Rattle.idl_tokens.specs.names.Scopes.{meaning}
 use Rattle.idl_input.specs.Input.{Parser, place}
 use Rattle.idl_types.specs.State.{State}
 use Rattle.idl_types.specs.Names.{innermost, full_name}

@@ -13,7 +13,7 @@ use Rattle.type_trees.specs.declared.types.Name.TheVariants as name_of
 use Rattle.type_trees.specs.Bridge.{name_number}
 use Rattle.node_rules.specs.Names.{name_fits}
 use Rattle.idl_tokens.specs.Classes.{Text}
-use Rattle.idl_names.specs.Sets.{has}
+use Rattle.idl_tokens.specs.names.Sets.{has}
 use Rattle.idl_printer.specs.Words.{name_text}
 use Rattle.idl_laws.specs.Printable.{is_spelled}
 use Rattle.idl_laws.proofs.Members.{IsNewName}

@@ -19,7 +19,7 @@ use Rattle.type_trees.specs.declared.types.Name.TheVariants as name_of
 use Rattle.type_trees.specs.Trees.{Tree, prim, str, enumeration, bitmask, sequence, array, map_of, structure, union, alias}
 use Rattle.type_trees.specs.Bridge.{shape, literal_shape}
 use Rattle.node_rules.specs.Names.{is_letter, is_identifier, name_fits}
-use Rattle.idl_names.specs.Sets.{has}
+use Rattle.idl_tokens.specs.names.Sets.{has}
 use Rattle.idl_tokens.specs.declared.tokens.TokenKind.TheVariants.{Word, Number, Character, Mark}
 use Rattle.idl_tokens.specs.Classes.{Text, is_printable}
 use Rattle.idl_tokens.specs.Tokens.{skip}

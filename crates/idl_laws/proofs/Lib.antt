@@ -1,3 +1,4 @@
+pub mod OfParsed
 pub mod Facts
 pub mod Bases
 pub mod Fronts

@@ -9,9 +9,9 @@ use Rattle.std.specs.Str.{bytes_eq}
 use Rattle.xt_shapes.specs.Lists.{all}
 use Rattle.type_trees.specs.Trees.{Tree}
 use Rattle.idl_tokens.specs.Classes.{Text}
-use Rattle.idl_names.specs.declared.scopes.Meaning.{Meaning}
-use Rattle.idl_names.specs.declared.scopes.Meaning.TheVariants as meaning_of
-use Rattle.idl_names.specs.Scopes.{Names, meaning}
+use Rattle.idl_tokens.specs.declared.names.scopes.Meaning.{Meaning}
+use Rattle.idl_tokens.specs.declared.names.scopes.Meaning.TheVariants as meaning_of
+use Rattle.idl_tokens.specs.names.Scopes.{Names, meaning}
 use Rattle.idl_types.specs.Names.{type_of, module_of, module_in, scope_at, named_in}
 use Rattle.idl_types.specs.State.{Declared}
 use Rattle.idl_laws.specs.Printable.{parts, begins_with, are_apart, names_apart}

@@ -22,7 +22,7 @@ use Rattle.xt_annotations.specs.declared.places.Setting.{Setting}
 use Rattle.xt_annotations.specs.Places.{allowed, setting, same_setting, is_wide}
 use Rattle.xt_annotations.specs.Places.{has as has_setting}
 use Rattle.xt_annotations.specs.Members.{with_note, with_notes}
-use Rattle.idl_names.specs.Sets.{has}
+use Rattle.idl_tokens.specs.names.Sets.{has}
 use Rattle.idl_input.specs.Words.{is_keyword}
 use Rattle.idl_input.specs.Input.{Parser, left}
 use Rattle.idl_types.specs.State.{State}

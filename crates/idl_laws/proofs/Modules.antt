@@ -6,8 +6,8 @@ use Rattle.std.specs.Prelude.{codes}
 use Rattle.idl_tokens.specs.declared.tokens.TokenKind.TheVariants.{Word, Mark}
 use Rattle.idl_tokens.specs.Classes.{Text}
 use Rattle.idl_tokens.specs.Tokens.{skip}
-use Rattle.idl_names.specs.declared.scopes.Meaning.TheVariants as meaning_of
-use Rattle.idl_names.specs.Scopes.{meaning}
+use Rattle.idl_tokens.specs.declared.names.scopes.Meaning.TheVariants as meaning_of
+use Rattle.idl_tokens.specs.names.Scopes.{meaning}
 use Rattle.idl_input.specs.declared.words.Keyword.TheVariants as word
 use Rattle.idl_input.specs.Words.{keyword}
 use Rattle.idl_input.specs.Input.{turns}

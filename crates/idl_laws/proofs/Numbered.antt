@@ -17,7 +17,7 @@ use Rattle.idl_tokens.specs.declared.tokens.TokenKind.TheVariants.{Word}
 use Rattle.idl_tokens.specs.Classes.{Text}
 use Rattle.idl_tokens.specs.Tokens.{skip}
 use Rattle.idl_tokens.specs.Tokens as tokens
-use Rattle.idl_names.specs.Sets.{has}
+use Rattle.idl_tokens.specs.names.Sets.{has}
 use Rattle.idl_input.specs.Words.{is_keyword}
 use Rattle.idl_input.specs.Input.{place}
 use Rattle.idl_definitions.specs.declared.settings.Settings.{Settings}

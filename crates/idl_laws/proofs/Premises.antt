@@ -14,7 +14,7 @@ use Rattle.type_trees.specs.declared.types.Flag.{Flag}
 use Rattle.type_trees.specs.declared.types.Name.{Name}
 use Rattle.type_trees.specs.Bridge.{name_number, literal_shape, flag_shape, shape, member_shapes, case_shapes}
 use Rattle.type_trees.specs.Trees.{Tree, prim, str, enumeration, bitmask, sequence, array, map_of, structure, union, alias, StructHead, UnionHead, Members, no_members, member, Cases, no_cases, one_case}
-use Rattle.type_sizes.specs.TypeNodes.{nodes, member_nodes}
+use Rattle.type_trees.specs.sizes.TypeNodes.{nodes, member_nodes}
 use Rattle.node_rules.specs.Names.{name_fits}
 use Rattle.node_rules.specs.Rules.{counts_rise}
 use Rattle.node_rules.specs.Table.{member_names, case_names}
@@ -30,7 +30,7 @@ use Rattle.idl_printer.specs.Words.{name_text}
 use Rattle.idl_printer.specs.Parts.{members_behind}
 use Rattle.idl_printer.specs.Lines.{last_base, count_of}
 use Rattle.idl_laws.specs.Printable.{is_spelled, literal_fits, label_fits, EachMember, EachCase, own_members}
-use Rattle.rule_laws.proofs.Nodes.{at_and_below, no_fault}
+use Rattle.type_rules.proofs.OfFaultless.Nodes.{at_and_below, no_fault}
 use Rattle.idl_laws.proofs.Facts.{GoodMembers, good_members, GoodCases, good_cases, numbers, member_numbers, case_numbers}
 use Rattle.idl_laws.proofs.Bases.{count, last_is, last_below}
 use Rattle.idl_laws.proofs.Declarators.{dims_hold}

@@ -7,9 +7,9 @@ use Rattle.xt_shapes.specs.Lists.{all}
 use Rattle.type_trees.specs.Trees.{Tree}
 use Rattle.idl_tokens.specs.Classes.{Text}
 use Rattle.idl_tokens.specs.Tokens.{skip}
-use Rattle.idl_names.specs.declared.scopes.Meaning.{Meaning}
-use Rattle.idl_names.specs.declared.scopes.Meaning.TheVariants as meaning_of
-use Rattle.idl_names.specs.Scopes.{Names, meaning, with_name}
+use Rattle.idl_tokens.specs.declared.names.scopes.Meaning.{Meaning}
+use Rattle.idl_tokens.specs.declared.names.scopes.Meaning.TheVariants as meaning_of
+use Rattle.idl_tokens.specs.names.Scopes.{Names, meaning, with_name}
 use Rattle.idl_types.specs.declared.opened.Opened.{Opened}
 use Rattle.idl_types.specs.State.{State, Declared, start, with_type, with_module, without_module, outer}
 use Rattle.idl_types.specs.Names.{innermost, full_name, type_by_name, scope_at, named_in, meant, a_name, with_new_module, scope_in, number_of}

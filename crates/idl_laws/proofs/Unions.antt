@@ -19,7 +19,7 @@ use Rattle.xt_annotations.specs.Places.{same_setting}
 use Rattle.idl_tokens.specs.declared.tokens.TokenKind.TheVariants.{Word, Mark}
 use Rattle.idl_tokens.specs.Classes.{Text}
 use Rattle.idl_tokens.specs.Tokens.{skip}
-use Rattle.idl_names.specs.Sets.{has}
+use Rattle.idl_tokens.specs.names.Sets.{has}
 use Rattle.idl_input.specs.Words.{is_keyword}
 use Rattle.idl_input.specs.Input.{place, left}
 use Rattle.idl_types.specs.State.{State}

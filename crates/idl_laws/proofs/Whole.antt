@@ -11,7 +11,7 @@ use Rattle.idl_types.specs.Names.{innermost}
 use Rattle.idl_printer.specs.Lines.{definition_text, line, printed}
 use Rattle.xt_idl.specs.Whole.{items_from, at_end, types_of, idl}
 use Rattle.idl_laws.specs.Printable.{IsDefinition, AreDefinitions, names_apart, IsPrintable}
-use Rattle.rule_laws.proofs.Nodes.{at_and_below, no_fault}
+use Rattle.type_rules.proofs.OfFaultless.Nodes.{at_and_below, no_fault}
 use Rattle.idl_laws.proofs.Fronts.{skip_short, skip_line, end_front}
 use Rattle.idl_laws.proofs.Steps.{at, kind_is}
 use Rattle.idl_laws.proofs.Names.{Spelt, spelt, openings, openings_are, endings, endings_are, last_is}

@@ -1,3 +1,4 @@
+pub mod parsed
 pub mod Printable
 pub mod Laws
 pub mod Worked

@@ -9,3 +9,5 @@ ghost use Rattle.idl_laws.specs.Laws as law;
 pub fn printed_is_read_again()
     ensures { law.PrintedIsReadAgain }
 {}
+
+pub mod parsed;

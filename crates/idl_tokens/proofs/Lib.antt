@@ -1,2 +1,3 @@
+pub mod OfNames
 pub mod Numbers
 pub mod Blanks

@@ -1,3 +1,4 @@
+pub mod names
 pub mod Classes
 pub mod Numerals
 pub mod Tables

@@ -3,6 +3,7 @@
 #![tactic(auto)]
 
 mod classes;
+pub mod names;
 mod numerals;
 mod tables;
 mod tokens;

@@ -4,9 +4,9 @@ use Rattle.std.proofs.lemmas.Bool.{and_parts, eqb-true, cases_lt}
 use Rattle.std.specs.Str.{bytes_eq}
 use Rattle.xt_shapes.specs.Lists.{or_else}
 use Rattle.idl_tokens.specs.Classes.{Text}
-use Rattle.idl_names.specs.declared.scopes.Meaning.{Meaning}
-use Rattle.idl_names.specs.declared.scopes.Meaning.TheVariants as meaning_of
-use Rattle.idl_names.specs.Scopes.{Names, meaning, with_name, with_absent}
+use Rattle.idl_tokens.specs.declared.names.scopes.Meaning.{Meaning}
+use Rattle.idl_tokens.specs.declared.names.scopes.Meaning.TheVariants as meaning_of
+use Rattle.idl_tokens.specs.names.Scopes.{Names, meaning, with_name, with_absent}
 use Rattle.idl_types.specs.declared.opened.Opened.{Opened}
 use Rattle.idl_types.specs.Names.{ScopedName, number_of, module_of, module_in, scope_at, type_of, named_in, place_in, outward}
 use Rattle.idl_types.specs.Inhabited.{TypesUpTo, LeadsUp, AboveFrom}

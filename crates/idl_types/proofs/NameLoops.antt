@@ -5,7 +5,7 @@ use Rattle.xt_shapes.specs.Lists.{or_else}
 use Rattle.type_trees.specs.declared.types.Named.{Named}
 use Rattle.type_trees.specs.View.{tree}
 use Rattle.idl_tokens.specs.Classes.{Text}
-use Rattle.idl_names.specs.Scopes.{Names}
+use Rattle.idl_tokens.specs.names.Scopes.{Names}
 use Rattle.idl_input.specs.Input.{Input, ◌>>=◌, pure, eat, name}
 use Rattle.idl_input.proofs.Turns.{turn, last}
 use Rattle.idl_types.specs.declared.opened.Opened.{Opened}

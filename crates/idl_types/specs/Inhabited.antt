@@ -1,8 +1,8 @@
 -- Which of the open modules may hold types, in themselves or in modules in them.
 use Rattle.std.specs.Prelude.{◌≡◌, ℕ, ◌<◌, ◌≤◌, List, length, slice_get, Some}
 use Rattle.idl_tokens.specs.Classes.{Text}
-use Rattle.idl_names.specs.declared.scopes.Meaning.TheVariants as meaning_of
-use Rattle.idl_names.specs.Scopes.{Names, meaning}
+use Rattle.idl_tokens.specs.declared.names.scopes.Meaning.TheVariants as meaning_of
+use Rattle.idl_tokens.specs.names.Scopes.{Names, meaning}
 use Rattle.idl_types.specs.declared.opened.Opened.{Opened}
 use Rattle.idl_types.specs.Names.{number_of}
 

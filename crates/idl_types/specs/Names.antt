@@ -4,9 +4,9 @@ use Rattle.std.specs.Option.{option_map}
 use Rattle.xt_shapes.specs.Lists.{or_else}
 use Rattle.type_trees.specs.Trees.{Tree}
 use Rattle.idl_tokens.specs.Classes.{Text}
-use Rattle.idl_names.specs.declared.scopes.Meaning.{Meaning}
-use Rattle.idl_names.specs.declared.scopes.Meaning.TheVariants as meaning_of
-use Rattle.idl_names.specs.Scopes.{Names, meaning}
+use Rattle.idl_tokens.specs.declared.names.scopes.Meaning.{Meaning}
+use Rattle.idl_tokens.specs.declared.names.scopes.Meaning.TheVariants as meaning_of
+use Rattle.idl_tokens.specs.names.Scopes.{Names, meaning}
 use Rattle.idl_input.specs.declared.faults.IdlFault.TheVariants as fault
 use Rattle.idl_input.specs.Input.{Input, Parser, ◌>>=◌, ◌>>◌, pure, refuse, here, eat, name, turns}
 use Rattle.idl_types.specs.declared.opened.Opened.{Opened}

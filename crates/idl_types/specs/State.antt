@@ -4,8 +4,8 @@ use Rattle.type_trees.specs.declared.types.Named.{Named}
 use Rattle.type_trees.specs.Trees.{Tree}
 use Rattle.type_trees.specs.View.{tree}
 use Rattle.idl_tokens.specs.Classes.{Text}
-use Rattle.idl_names.specs.declared.scopes.Meaning.TheVariants as meaning_of
-use Rattle.idl_names.specs.Scopes.{Names, with_name}
+use Rattle.idl_tokens.specs.declared.names.scopes.Meaning.TheVariants as meaning_of
+use Rattle.idl_tokens.specs.names.Scopes.{Names, with_name}
 use Rattle.idl_types.specs.declared.opened.Opened.{Opened}
 
 -- types by their full names, in the order of the text

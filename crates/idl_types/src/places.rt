@@ -5,7 +5,7 @@ ghost use Rattle.idl_types.specs.Views as view;
 use crate::names::Scoped;
 use crate::opened::Opened;
 use crate::scopes::Scopes;
-use idl_names::{Meaning, ScopedNames};
+use idl_tokens::names::{Meaning, ScopedNames};
 
 /// The scope of a module in a scope.
 fn module_in<'a>(names: &ScopedNames<'a>, scope: usize, name: &'a [u8]) -> Option<usize>

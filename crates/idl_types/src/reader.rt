@@ -1,7 +1,7 @@
 ghost use Rattle.std.specs.Prelude.{◌≡◌, ◌≤◌, ◌<◌, length, slice_get, map, None, Some, OnOk, IfOk, [], ◌∷◌, ◌++◌, ◌+◌, ◌^◌};
 ghost use Rattle.std.specs.Option.{option_map};
 ghost use Rattle.type_trees.specs.View.{tree};
-ghost use Rattle.idl_names.specs.Scopes.{meaning};
+ghost use Rattle.idl_tokens.specs.names.Scopes.{meaning};
 ghost use Rattle.idl_input.specs.Input.{Reads};
 ghost use Rattle.idl_types.specs.Names as spec;
 ghost use Rattle.idl_types.specs.State as state;
@@ -12,7 +12,7 @@ use crate::opened::Opened;
 use crate::places::place_of;
 use crate::scopes::Scopes;
 use idl_input::{IdlFault, Tokens};
-use idl_names::Meaning;
+use idl_tokens::names::Meaning;
 use std::alloc::Global;
 use type_trees::{Named, XType};
 use type_values::copy_type;

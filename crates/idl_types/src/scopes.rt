@@ -1,11 +1,11 @@
 ghost use Rattle.std.specs.Prelude.{◌≡◌, ◌≤◌, ◌<◌, ◌+◌, ◌++◌, ◌∷◌, [], length, None, OnOk};
-ghost use Rattle.idl_names.specs.Scopes.{meaning, with_name};
+ghost use Rattle.idl_tokens.specs.names.Scopes.{meaning, with_name};
 ghost use Rattle.idl_types.specs.State.{outer};
 ghost use Rattle.idl_types.specs.Names.{innermost};
 ghost use Rattle.idl_types.specs.Inhabited.{TypesUpTo, LeadsUp, AboveFrom};
 
 use crate::opened::Opened;
-use idl_names::{Meaning, ScopedNames};
+use idl_tokens::names::{Meaning, ScopedNames};
 use std::alloc::Global;
 use std::mem;
 use xt_lists::{OutOfMemory, Row, Text};

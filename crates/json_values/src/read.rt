@@ -27,7 +27,7 @@ use crate::objects::{
 use crate::read_lists::{read_literals, read_numbers};
 use serde_json::{Map, Value as Data};
 use std::alloc::Global;
-use type_sizes::elements_of;
+use type_trees::sizes::elements_of;
 use type_trees::{
     ArrayType, Case, MapType, Member, Pair, SeqType, Slot, StructType, UnionType, UnionValue,
     Value, XType, select,

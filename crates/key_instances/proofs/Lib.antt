@@ -1,3 +1,5 @@
+pub mod OfKept
+pub mod OfOctets
 pub mod Places
 pub mod Puts
 pub mod Readings

@@ -7,8 +7,8 @@ use Rattle.std.specs.Map.{lookup, keys_of}
 use Rattle.std.specs.Str.{bytes_eq}
 use Rattle.type_trees.specs.View.{val}
 use Rattle.xt_shapes.specs.Vals.{Val}
-use Rattle.kept_model.specs.Kept.{Instances, last, put, has_key}
-use Rattle.kept_model.proofs.Keys.{turned_bytes}
+use Rattle.key_instances.specs.kept.Kept.{Instances, last, put, has_key}
+use Rattle.key_instances.proofs.OfKept.Keys.{turned_bytes}
 use Rattle.indexmap.specs.IndexMap.{IndexMap, get, insert_entry, set_value_at}
 use Rattle.indexmap.proofs.MapLemmas.{Found-position}
 use Rattle.indexmap.proofs.CallerLemmas.{insert_entry-new}

@@ -5,7 +5,7 @@ use Rattle.std.proofs.lemmas.Bool.{both_ways}
 use Rattle.std.proofs.lemmas.List.{length-append}
 use Rattle.std.proofs.lemmas.List.Elements.{All-push}
 use Rattle.type_trees.specs.declared.values.Value.{Value}
-use Rattle.kept_model.specs.Kept.{Instances, has_key, is_full}
+use Rattle.key_instances.specs.kept.Kept.{Instances, has_key, is_full}
 use Rattle.key_instances.specs.Caches.{AreWithin}
 
 pub on_ok : {X E P Q : Type 0} (r : Result X E) → (P → Q) → OnOk r P → OnOk r Q

@@ -6,7 +6,7 @@ use Rattle.std.specs.Option.{option_map, option_and_then}
 use Rattle.type_trees.specs.declared.values.Value.{Value}
 use Rattle.type_trees.specs.View.{val}
 use Rattle.xt_shapes.specs.Vals.{Val}
-use Rattle.kept_model.specs.Kept.{Instances}
+use Rattle.key_instances.specs.kept.Kept.{Instances}
 use Rattle.key_instances.specs.Caches.{shown, key_of, count_of, value_of}
 use Rattle.key_instances.specs.Held.{held}
 use Rattle.key_instances.specs.declared.entry.Entry.{Entry}

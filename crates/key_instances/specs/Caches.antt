@@ -4,7 +4,7 @@ use Rattle.std.specs.Option.{option_map, option_and_then}
 use Rattle.type_trees.specs.View.{val}
 use Rattle.type_trees.specs.declared.values.Value.{Value}
 use Rattle.xt_shapes.specs.Vals.{Val}
-use Rattle.kept_model.specs.Kept.{Instances, last}
+use Rattle.key_instances.specs.kept.Kept.{Instances, last}
 
 -- how many values are kept of a key, how many keys there may be, and the keys with their values
 pub record Cache : Type 0 where

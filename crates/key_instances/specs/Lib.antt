@@ -1,2 +1,4 @@
+pub mod kept
+pub mod octets
 pub mod Caches
 pub mod Held

@@ -1,6 +1,6 @@
 ghost use Rattle.std.specs.Prelude.{◌≡◌, ◌≤◌, ◌<◌, [], ◌∷◌, ◌++◌, length, map, OnOk, OnErr, IfOk};
 ghost use Rattle.type_trees.specs.View.{val};
-ghost use Rattle.kept_model.specs.Kept.{last};
+ghost use Rattle.key_instances.specs.kept.Kept.{last};
 
 use std::alloc::Global;
 use std::collections::VecDeque;

@@ -1,7 +1,7 @@
 ghost use Rattle.std.specs.Prelude.{◌≡◌, ◌≤◌, ◌<◌, [], ◌∷◌, ◌++◌, length, map, false, Some, IfSome, IfOk, IfErr, OnOk, OnErr, IsErrOf, IsTrue};
 ghost use Rattle.type_trees.specs.View.{val};
-ghost use Rattle.kept_model.specs.Kept as spec;
-ghost use Rattle.kept_model.specs.Kept.{has_key};
+ghost use Rattle.key_instances.specs.kept.Kept as spec;
+ghost use Rattle.key_instances.specs.kept.Kept.{has_key};
 ghost use Rattle.key_instances.specs.Caches.{instances, shown, key_of, count_of, value_of, again_at, AreWithin};
 ghost use Rattle.key_instances.specs.Held.{held};
 

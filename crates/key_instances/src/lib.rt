@@ -3,6 +3,8 @@
 
 mod entry;
 mod instances;
+pub mod kept;
+pub mod octets;
 
+pub use crate::octets::{hash_of, key_hash, key_octets, short_key};
 pub use instances::{Instances, PutFault};
-pub use key_octets::{hash_of, key_hash, key_octets, short_key};

@@ -1,13 +1,13 @@
 //! A push to a peer that has another object under the same identifier, where a naming names every object alike.
-ghost use Rattle.mirror_rounds.specs.Pushes.{MayPush};
+ghost use Rattle.type_mirror.specs.told.Pushes.{MayPush};
 
 use crate::namings::Alike;
 use crate::objects::{alone, object};
-use lookup_messages::Fetched;
 use std::alloc::Global;
 use std::test::Fail;
-use tool_clients::mirror_objects;
-use tool_output::Ending;
+use tool_nets::clients::mirror_objects;
+use tool_runs::output::Ending;
+use type_lookup::messages::Fetched;
 use type_registry::Naming;
 use xt_io::{MemNet, MemSink, Script};
 use xt_lists::{OutOfMemory, Row, Text, Word};

@@ -2,11 +2,11 @@
 //! stops where the source fails or its input ends.
 use std::alloc::Global;
 use std::test::Fail;
-use wire_cursor::{Cursor, CutFault, SliceCursor};
-use wire_streams::StreamCursor;
 use xt_io::BundleReader;
 use xt_lists::{OutOfMemory, Text};
 use xt_outside::{Kind, MemSource, RecordFault, Source};
+use xt_wire::cursor::{Cursor, CutFault, SliceCursor};
+use xt_wire::streams::StreamCursor;
 
 // A record of 16 octets, and one behind it.
 const BUNDLE: &[u8] = b"\x02\x00\x00\x00\x10abcdefghijklmnop\x05\x00\x00\x00\x02qr";

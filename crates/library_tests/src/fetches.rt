@@ -1,15 +1,15 @@
 //! Fetches from the service itself.
 ghost use Rattle.std.specs.Prelude.{◌≡◌, IfOk};
 ghost use Rattle.std.specs.List.{All};
-ghost use Rattle.lookup_messages.specs.Spelling.{IsKnownId};
+ghost use Rattle.type_lookup.specs.messages.Spelling.{IsKnownId};
 
 use crate::objects::{COLOR, alone};
 use crate::pushes::tells;
 use lookup_fetch::{FetchFault, fetch};
-use lookup_messages::Fetched;
-use loop_link::LoopLink;
+use lookup_service::link::LoopLink;
 use std::alloc::Global;
 use std::test::Fail;
+use type_lookup::messages::Fetched;
 use type_object::hash_of;
 use type_registry::{Md5Naming, Registry};
 use type_trees::HashId;

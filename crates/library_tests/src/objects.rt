@@ -1,10 +1,10 @@
 //! Small objects, and one that may be pushed alone.
 ghost use Rattle.std.specs.Prelude.{◌≡◌, IfSome};
 ghost use Rattle.type_object.specs.Names.{named_by};
-ghost use Rattle.mirror_rounds.specs.Pushes.{MayPush};
+ghost use Rattle.type_mirror.specs.told.Pushes.{MayPush};
 
-use lookup_messages::Fetched;
 use std::alloc::Global;
+use type_lookup::messages::Fetched;
 use type_object::{kind_of, read_object};
 use type_registry::Naming;
 use type_trees::HashId;

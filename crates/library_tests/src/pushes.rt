@@ -1,11 +1,11 @@
 //! Pushes to the service itself.
-ghost use Rattle.mirror_rounds.specs.Pushes.{MayPush};
+ghost use Rattle.type_mirror.specs.told.Pushes.{MayPush};
 
 use crate::objects::{COLOR, alone, named, object};
-use lookup_messages::Fetched;
-use loop_link::LoopLink;
+use lookup_service::link::LoopLink;
 use std::alloc::Global;
 use std::test::Fail;
+use type_lookup::messages::Fetched;
 use type_mirror::{Gave, Give, Pair, PushFault, Side, Told, What, push};
 use type_registry::{Md5Naming, Naming, Registry};
 use xt_io::Link;

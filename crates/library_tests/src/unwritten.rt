@@ -4,7 +4,7 @@ use std::alloc::Global;
 use std::process::Abort;
 use std::test::Fail;
 use type_rules::check_type;
-use type_sizes::capped_weight;
+use type_trees::sizes::capped_weight;
 use type_trees::{
     AliasType, ArrayType, Base, Case, Elem, EnumType, Flag, Literal, MaskType, Member, Name,
     SeqType, StructType, UnionType, Value, XType,

@@ -2,7 +2,7 @@
 ghost use Rattle.std.specs.Prelude.{◌≡◌, ◌≤◌, false, length, IfOk};
 ghost use Rattle.std.specs.List.{All};
 
-use lookup_workers::{Gate, NoGate, Seat, ServeFault, serve_workers};
+use lookup_service::workers::{Gate, NoGate, Seat, ServeFault, serve_workers};
 use std::alloc::Global;
 use std::sync::atomic::{AtomicU64, Ordering};
 use std::test::Fail;

@@ -3,9 +3,9 @@ use Rattle.std.proofs.Common.{◌≡◌, ℕ, ◌+◌, ◌*◌, ◌≤◌, List,
 use Rattle.std.specs.Prelude.{All}
 use Rattle.std.proofs.lemmas.List.Elements.{All-head, All-tail}
 use Rattle.type_trees.specs.declared.types.HashId.{HashId}
-use Rattle.lookup_messages.specs.declared.messages.Operation.TheVariants as operation
-use Rattle.lookup_messages.specs.declared.messages.Message.TheVariants.{GetTypes}
-use Rattle.lookup_messages.specs.Spelling.{payload_of, HasFrame, HasHash, IsKnownId, head_octets, number_octets, all_octets, counted_octets}
+use Rattle.type_lookup.specs.declared.messages.messages.Operation.TheVariants as operation
+use Rattle.type_lookup.specs.declared.messages.messages.Message.TheVariants.{GetTypes}
+use Rattle.type_lookup.specs.messages.Spelling.{payload_of, HasFrame, HasHash, IsKnownId, head_octets, number_octets, all_octets, counted_octets}
 use Rattle.type_trees.specs.Ids.{id_octets}
 
 head_long : (tag : ℕ) → length (head_octets 0 operation.GetTypes tag) ≡ 9

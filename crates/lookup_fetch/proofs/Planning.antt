@@ -3,11 +3,11 @@ use Rattle.std.proofs.Common.{◌≡◌, ℕ, ◌<◌, ◌≤◌, Bool, true, fa
 use Rattle.std.specs.Prelude.{All, None, Some, nat_lt}
 use Rattle.std.proofs.lemmas.Bool.{lt-ltb, le-ltb}
 use Rattle.type_trees.specs.declared.types.HashId.{HashId}
-use Rattle.lookup_messages.specs.declared.messages.Fetched.{Fetched}
-use Rattle.object_visits.specs.Visits.{Known, is_known}
-use Rattle.object_visits.proofs.Left.{all_left, all_chosen}
+use Rattle.type_lookup.specs.declared.messages.messages.Fetched.{Fetched}
+use Rattle.type_object.specs.visits.Visits.{Known, is_known}
+use Rattle.type_object.proofs.OfVisits.Left.{all_left, all_chosen}
 use Rattle.type_object.specs.Pools.{Texts}
-use Rattle.lookup_messages.specs.Spelling.{IsKnownId}
+use Rattle.type_lookup.specs.messages.Spelling.{IsKnownId}
 use Rattle.lookup_fetch.specs.declared.plan.Next.{Next}
 use Rattle.lookup_fetch.specs.declared.plan.Next.TheVariants.{Many, Whole, Ask}
 use Rattle.lookup_fetch.specs.Plans.{IsAsking}

@@ -5,8 +5,8 @@ use Rattle.std.specs.Option.{option_map, is_some}
 use Rattle.std.proofs.lemmas.List.Elements.{All-head, All-tail, All-append, All-push}
 use Rattle.type_trees.specs.declared.types.HashId.{HashId}
 use Rattle.type_object.specs.References.{is_among}
-use Rattle.object_visits.specs.Visits.{Known, referred, first_of, then_visits, visits}
-use Rattle.lookup_messages.specs.declared.messages.Fetched.{Fetched}
+use Rattle.type_object.specs.visits.Visits.{Known, referred, first_of, then_visits, visits}
+use Rattle.type_lookup.specs.declared.messages.messages.Fetched.{Fetched}
 use Rattle.type_object.specs.Names.{named}
 use Rattle.lookup_fetch.specs.Plans.{IsOwn}
 use Rattle.lookup_fetch.specs.Rounds.{reached, with_object, objects_of}

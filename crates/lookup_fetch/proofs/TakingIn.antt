@@ -10,14 +10,14 @@ use Rattle.type_trees.proofs.SameIds.{same_id_tells, same_is}
 use Rattle.object_formats.specs.declared.faults.Fault.{Fault}
 use Rattle.object_formats.specs.Objects.{Object}
 use Rattle.object_formats.specs.Tables.{object_of}
-use Rattle.object_visits.proofs.Among.{among_still, among_last, decide}
-use Rattle.object_visits.proofs.Left.{next_item}
+use Rattle.type_object.proofs.OfVisits.Among.{among_still, among_last, decide}
+use Rattle.type_object.proofs.OfVisits.Left.{next_item}
 use Rattle.type_object.specs.Names.{named}
 use Rattle.type_object.specs.Pools.{Texts, IsObject, Refusal, no_object, full, found, put, added, added_so}
 use Rattle.type_object.specs.References.{is_among}
-use Rattle.lookup_messages.specs.declared.messages.Fetched.{Fetched}
-use Rattle.lookup_messages.specs.declared.messages.Message.{Message}
-use Rattle.lookup_messages.specs.declared.messages.Message.TheVariants.{GetTypes, GetTypeDependencies, PutTypes, Types, Dependencies, Put}
+use Rattle.type_lookup.specs.declared.messages.messages.Fetched.{Fetched}
+use Rattle.type_lookup.specs.declared.messages.messages.Message.{Message}
+use Rattle.type_lookup.specs.declared.messages.messages.Message.TheVariants.{GetTypes, GetTypeDependencies, PutTypes, Types, Dependencies, Put}
 use Rattle.lookup_fetch.specs.declared.faults.FetchFault.{FetchFault}
 use Rattle.lookup_fetch.specs.declared.faults.FetchFault.TheVariants.{LinkFault, BadReply, WrongHash, NotServed, TooMany, OutOfMemory}
 use Rattle.lookup_fetch.specs.Rounds.{found_in, is_object, fault_of, first_fault, fault_in, not_served, objects_fault, reply_fault, text_of, texts_in}

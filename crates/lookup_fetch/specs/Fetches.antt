@@ -4,8 +4,8 @@ use Rattle.std.specs.Io.KnownBytes.{append_known, IsAtEnd}
 use Rattle.xt_io.specs.Outside.{Rose}
 use Rattle.type_trees.specs.declared.types.HashId.{HashId}
 use Rattle.type_object.specs.Pools.{Texts}
-use Rattle.lookup_messages.specs.declared.messages.Fetched.{Fetched}
-use Rattle.lookup_messages.specs.declared.messages.Message.{Message}
+use Rattle.type_lookup.specs.declared.messages.messages.Fetched.{Fetched}
+use Rattle.type_lookup.specs.declared.messages.messages.Message.{Message}
 use Rattle.type_lookup.specs.declared.faults.FrameFault.TheVariants as frame
 use Rattle.type_lookup.specs.Frames.{Front, no_frame, framed, broken, front, Took}
 use Rattle.type_lookup.specs.Sequences.{frames_of, AreFrames}

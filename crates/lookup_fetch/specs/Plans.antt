@@ -4,8 +4,8 @@ use Rattle.std.specs.List.{All}
 use Rattle.type_trees.specs.declared.types.HashId.{HashId}
 use Rattle.type_object.specs.Names.{named}
 use Rattle.type_object.specs.Pools.{Texts}
-use Rattle.lookup_messages.specs.declared.messages.Fetched.{Fetched}
-use Rattle.lookup_messages.specs.Spelling.{IsKnownId}
+use Rattle.type_lookup.specs.declared.messages.messages.Fetched.{Fetched}
+use Rattle.type_lookup.specs.messages.Spelling.{IsKnownId}
 use Rattle.lookup_fetch.specs.declared.plan.Next.{Next}
 use Rattle.lookup_fetch.specs.declared.plan.Next.TheVariants.{Many, Whole, Ask}
 use Rattle.lookup_fetch.specs.Rounds.{found_in}

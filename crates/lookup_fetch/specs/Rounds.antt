@@ -9,10 +9,10 @@ use Rattle.object_formats.specs.Tables.{object_of}
 use Rattle.type_object.specs.Names.{named}
 use Rattle.type_object.specs.Pools.{Texts, found}
 use Rattle.type_object.specs.References.{is_among}
-use Rattle.lookup_messages.specs.declared.messages.Fetched.{Fetched}
-use Rattle.lookup_messages.specs.declared.messages.Message.{Message}
-use Rattle.lookup_messages.specs.declared.messages.Message.TheVariants.{GetTypes, GetTypeDependencies, PutTypes, Types, Dependencies, Put}
-use Rattle.object_visits.specs.Visits.{Known, is_known, referred, visits}
+use Rattle.type_lookup.specs.declared.messages.messages.Fetched.{Fetched}
+use Rattle.type_lookup.specs.declared.messages.messages.Message.{Message}
+use Rattle.type_lookup.specs.declared.messages.messages.Message.TheVariants.{GetTypes, GetTypeDependencies, PutTypes, Types, Dependencies, Put}
+use Rattle.type_object.specs.visits.Visits.{Known, is_known, referred, visits}
 use Rattle.lookup_fetch.specs.declared.plan.Next.{Next}
 use Rattle.lookup_fetch.specs.declared.plan.Next.TheVariants.{Many, Whole, Ask}
 use Rattle.lookup_fetch.specs.declared.faults.FetchFault.{FetchFault}

@@ -3,10 +3,10 @@ use Rattle.std.specs.Prelude.{◌≡◌, ℕ, List, [], ◌++◌, Option, Some, 
 use Rattle.std.specs.Io.KnownBytes.{IsAtEnd}
 use Rattle.type_trees.specs.declared.types.HashId.{HashId}
 use Rattle.type_object.specs.Pools.{Texts}
-use Rattle.lookup_messages.specs.declared.messages.Fetched.{Fetched}
-use Rattle.lookup_messages.specs.declared.messages.Message.{Message}
-use Rattle.lookup_messages.specs.declared.messages.Message.TheVariants.{GetTypes}
-use Rattle.lookup_messages.specs.Spelling.{frame_of}
+use Rattle.type_lookup.specs.declared.messages.messages.Fetched.{Fetched}
+use Rattle.type_lookup.specs.declared.messages.messages.Message.{Message}
+use Rattle.type_lookup.specs.declared.messages.messages.Message.TheVariants.{GetTypes}
+use Rattle.type_lookup.specs.messages.Spelling.{frame_of}
 use Rattle.type_lookup.specs.Frames.{framed, front}
 use Rattle.type_lookup.specs.Sequences.{frames_of, AreFrames}
 use Rattle.lookup_fetch.specs.declared.plan.Next.TheVariants.{Ask}

@@ -2,9 +2,9 @@
 use Rattle.std.specs.Prelude.{◌≡◌, ℕ, List, [], ◌∷◌}
 use Rattle.std.proofs.Common.{refl}
 use Rattle.type_trees.specs.declared.types.HashId.{HashId}
-use Rattle.lookup_messages.specs.declared.messages.Message.{Message}
-use Rattle.lookup_messages.specs.declared.messages.Message.TheVariants.{GetTypes, Types, Put}
-use Rattle.object_visits.specs.Visits.{visits}
+use Rattle.type_lookup.specs.declared.messages.messages.Message.{Message}
+use Rattle.type_lookup.specs.declared.messages.messages.Message.TheVariants.{GetTypes, Types, Put}
+use Rattle.type_object.specs.visits.Visits.{visits}
 use Rattle.lookup_fetch.specs.declared.faults.FetchFault.TheVariants.{BadReply, NotServed}
 use Rattle.lookup_fetch.specs.Rounds.{reached, closure, plan, done, stopped, waits, rounds}
 

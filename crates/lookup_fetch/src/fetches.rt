@@ -1,14 +1,14 @@
 //! The fetch of objects over a link.
 ghost use Rattle.std.specs.Prelude.{◌≡◌, IfOk};
 ghost use Rattle.std.specs.List.{All};
-ghost use Rattle.lookup_messages.specs.Spelling.{IsKnownId};
+ghost use Rattle.type_lookup.specs.messages.Spelling.{IsKnownId};
 ghost use Rattle.lookup_fetch.specs.Plans.{IsOwn};
 ghost use Rattle.lookup_fetch.specs.Fetches.{FetchesOver, HasFetchCause};
 
 use crate::faults::FetchFault;
 use crate::rounds::round;
-use lookup_messages::Fetched;
 use std::alloc::Global;
+use type_lookup::messages::Fetched;
 use type_object::Pool;
 use type_trees::HashId;
 use xt_io::Link;

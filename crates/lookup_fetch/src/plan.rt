@@ -2,14 +2,14 @@
 ghost use Rattle.std.specs.Prelude.{◌≡◌, ◌≤◌, [], None, Some, not, false, length, IfOk, IfSome, MatchOption};
 ghost use Rattle.std.specs.List.{All};
 ghost use Rattle.type_object.specs.References.{is_among};
-ghost use Rattle.lookup_messages.specs.Spelling.{IsKnownId};
-ghost use Rattle.object_visits.specs.Visits.{is_known, referred, first_of};
+ghost use Rattle.type_lookup.specs.messages.Spelling.{IsKnownId};
+ghost use Rattle.type_object.specs.visits.Visits.{is_known, referred, first_of};
 ghost use Rattle.lookup_fetch.specs.Plans.{IsOwn, IsGoodPlan};
 ghost use Rattle.lookup_fetch.specs.Rounds.{reached as reached_from, lacking as lacking_of, objects_of, found_in, plan as plan_of};
 
-use lookup_messages::Fetched;
-use object_visits::{Ids, Todo};
 use std::alloc::Global;
+use type_lookup::messages::Fetched;
+use type_object::visits::{Ids, Todo};
 use type_object::{Pool, references};
 use type_trees::HashId;
 use xt_lists::{OutOfMemory, Row, Text};

@@ -7,9 +7,9 @@ ghost use Rattle.lookup_fetch.specs.Rounds.{is_object, fault_of, fault_in, reply
 ghost use Rattle.lookup_fetch.specs.Taking.{AreNew, IsFault};
 
 use crate::faults::FetchFault;
-use lookup_messages::{Fetched, Message};
-use object_visits::Ids;
 use std::alloc::Global;
+use type_lookup::messages::{Fetched, Message};
+use type_object::visits::Ids;
 use type_object::{ObjectFault, Pool, PoolFault, named, read_object};
 use type_trees::HashId;
 

@@ -2,13 +2,13 @@
 use Rattle.std.proofs.Common.{◌≡◌, ℕ, ◌+◌, ◌*◌, ◌≤◌, inl, inr, List, [], ◌∷◌, ◌++◌, length, length-append, refl, arith}
 use Rattle.std.specs.Prelude.{All}
 use Rattle.std.proofs.lemmas.List.Elements.{All-head, All-tail}
-use Rattle.lookup_messages.specs.declared.messages.Fetched.{Fetched}
-use Rattle.lookup_messages.specs.declared.messages.Needed.{Needed}
-use Rattle.lookup_messages.specs.declared.messages.Operation.{Operation}
-use Rattle.lookup_messages.specs.declared.messages.Operation.TheVariants as operation
-use Rattle.lookup_messages.specs.declared.messages.Message.TheVariants.{Types, Dependencies, Put}
+use Rattle.type_lookup.specs.declared.messages.messages.Fetched.{Fetched}
+use Rattle.type_lookup.specs.declared.messages.messages.Needed.{Needed}
+use Rattle.type_lookup.specs.declared.messages.messages.Operation.{Operation}
+use Rattle.type_lookup.specs.declared.messages.messages.Operation.TheVariants as operation
+use Rattle.type_lookup.specs.declared.messages.messages.Message.TheVariants.{Types, Dependencies, Put}
 use Rattle.type_trees.specs.Ids.{id_octets}
-use Rattle.lookup_messages.specs.Spelling.{payload_of, HasFrame, IsFetched, IsNeeded, IsNeededInRange, IsPoint, head_octets, number_octets, needed_octets, fetched_octets, object_octets, point_octets, all_octets, counted_octets}
+use Rattle.type_lookup.specs.messages.Spelling.{payload_of, HasFrame, IsFetched, IsNeeded, IsNeededInRange, IsPoint, head_octets, number_octets, needed_octets, fetched_octets, object_octets, point_octets, all_octets, counted_octets}
 
 head_long : (direction : ℕ) (op : Operation) (tag : ℕ) → length (head_octets direction op tag) ≡ 9
 head_long direction op tag = refl

@@ -6,15 +6,15 @@ use Rattle.object_formats.proofs.OwnKinds.{text_short, text_kind}
 use Rattle.std.proofs.lemmas.Bool.{lt-ltb, le-ltb}
 use Rattle.type_object.specs.Pools.{IsObject}
 use Rattle.type_object.specs.References.{is_among, once}
-use Rattle.lookup_messages.specs.declared.messages.Fetched.{Fetched}
-use Rattle.lookup_messages.specs.Spelling.{fetched_octets, all_octets, object_octets, number_octets}
+use Rattle.type_lookup.specs.declared.messages.messages.Fetched.{Fetched}
+use Rattle.type_lookup.specs.messages.Spelling.{fetched_octets, all_octets, object_octets, number_octets}
 use Rattle.type_trees.specs.Ids.{id_octets, is_object_kind}
 use Rattle.type_registry.specs.Held.{IsNamed, held}
-use Rattle.lookup_messages.proofs.ListSpelling.{all-append}
-use Rattle.object_visits.specs.Visits.{Known}
+use Rattle.type_lookup.proofs.OfMessages.ListSpelling.{all-append}
+use Rattle.type_object.specs.visits.Visits.{Known}
 use Rattle.lookup_replies.specs.Walks.{Agrees, Further}
 use Rattle.lookup_replies.specs.Replies.{and_known, objects_of, within, served}
-use Rattle.object_visits.proofs.Among.{among_last}
+use Rattle.type_object.proofs.OfVisits.Among.{among_last}
 use Rattle.lookup_replies.proofs.Walking.{agrees_before, further_more}
 
 -- Whatever is learned later of other identifiers, these objects are served, and then those of the rest, as far as there is room.

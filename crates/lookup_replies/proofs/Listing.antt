@@ -5,9 +5,9 @@ use Rattle.std.proofs.lemmas.Bool.{cases_lt}
 use Rattle.std.proofs.lemmas.List.{take_rest, length-drop}
 use Rattle.type_trees.specs.declared.types.HashId.{HashId}
 use Rattle.type_object.specs.References.{is_among}
-use Rattle.object_visits.specs.Visits.{Known, is_known, met}
+use Rattle.type_object.specs.visits.Visits.{Known, is_known, met}
 use Rattle.lookup_replies.specs.Replies.{depends}
-use Rattle.object_visits.proofs.Left.{all_left}
+use Rattle.type_object.proofs.OfVisits.Left.{all_left}
 use Rattle.lookup_replies.proofs.Walking.{met_known}
 
 same_filter : (p q : HashId → Bool) (xs : List HashId) → ((id : HashId) → p id ≡ q id) → filter p xs ≡ filter q xs

@@ -10,7 +10,7 @@ use Rattle.type_registry.specs.Held.{Held}
 use Rattle.type_registry.specs.Found.{Found}
 use Rattle.type_registry.specs.Passed.{PassView, Occupied, known, fulls, Keeps, Grows, IsFull, Learns, LearnsFull}
 use Rattle.type_registry.specs.Registered.{IsIn}
-use Rattle.object_visits.specs.Visits.{Known}
+use Rattle.type_object.specs.visits.Visits.{Known}
 use Rattle.lookup_replies.specs.Replies.{IsOutcome, AreOutcomes}
 
 some_not_none : {X : Type 0} (o : Option X) (x : X) → o ≡ None → o ≡ Some x → ⊥

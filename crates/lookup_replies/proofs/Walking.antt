@@ -7,9 +7,9 @@ use Rattle.std.proofs.lemmas.List.Elements.{All-nil, All-push}
 use Rattle.type_trees.specs.declared.types.HashId.{HashId}
 use Rattle.type_object.specs.Pools.{object_in}
 use Rattle.type_object.specs.References.{is_among}
-use Rattle.object_visits.specs.Visits.{Known, is_known, referred, references_in, first_of, is_new, then_visits, visits, met}
+use Rattle.type_object.specs.visits.Visits.{Known, is_known, referred, references_in, first_of, is_new, then_visits, visits, met}
 use Rattle.lookup_replies.specs.Walks.{Agrees, Tells, visits_by, Leads, Further}
-use Rattle.object_visits.proofs.Among.{among_more, among_still, among_last, differ, decide}
+use Rattle.type_object.proofs.OfVisits.Among.{among_more, among_still, among_last, differ, decide}
 
 -- ---- the definition, by its cases
 

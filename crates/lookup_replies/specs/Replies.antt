@@ -4,15 +4,15 @@ use Rattle.std.specs.Int.{w32, from_le_bytes, to_le_bytes}
 use Rattle.type_trees.specs.declared.types.HashId.{HashId}
 use Rattle.type_object.specs.Pools.{IsObject}
 use Rattle.type_object.specs.References.{is_among, once}
-use Rattle.lookup_messages.specs.declared.messages.Fetched.{Fetched}
-use Rattle.lookup_messages.specs.declared.messages.Needed.{Needed}
-use Rattle.lookup_messages.specs.declared.messages.Message.{Message}
-use Rattle.lookup_messages.specs.declared.messages.Message.TheVariants.{GetTypes, GetTypeDependencies, PutTypes, Types, Dependencies, Put}
-use Rattle.lookup_messages.specs.Spelling.{fetched_octets}
+use Rattle.type_lookup.specs.declared.messages.messages.Fetched.{Fetched}
+use Rattle.type_lookup.specs.declared.messages.messages.Needed.{Needed}
+use Rattle.type_lookup.specs.declared.messages.messages.Message.{Message}
+use Rattle.type_lookup.specs.declared.messages.messages.Message.TheVariants.{GetTypes, GetTypeDependencies, PutTypes, Types, Dependencies, Put}
+use Rattle.type_lookup.specs.messages.Spelling.{fetched_octets}
 use Rattle.type_object.specs.Names.{named_by}
 use Rattle.type_registry.specs.Held.{Held}
 use Rattle.type_registry.specs.Passed.{PassView, known, fulls}
-use Rattle.object_visits.specs.Visits.{Known, met}
+use Rattle.type_object.specs.visits.Visits.{Known, met}
 
 -- ---- getTypes
 

@@ -2,7 +2,7 @@
 use Rattle.std.specs.Prelude.{◌≡◌, ℕ, suc, List, Bool, true, false, Option, None}
 use Rattle.type_trees.specs.declared.types.HashId.{HashId}
 use Rattle.type_object.specs.References.{is_among}
-use Rattle.object_visits.specs.Visits.{Known, is_known, referred, visits}
+use Rattle.type_object.specs.visits.Visits.{Known, is_known, referred, visits}
 
 -- both say the same of these identifiers
 abbrev pub Agrees : Known → Known → List HashId → Type 0

@@ -3,8 +3,8 @@ use Rattle.std.specs.Prelude.{◌≡◌, ℕ, zero, suc, if◌then◌else◌, Li
 use Rattle.std.proofs.Common.{refl}
 use Rattle.type_trees.specs.declared.types.HashId.{HashId}
 use Rattle.type_trees.specs.Ids.{same_id}
-use Rattle.lookup_messages.specs.declared.messages.Message.TheVariants.{Dependencies}
-use Rattle.object_visits.specs.Visits.{Known}
+use Rattle.type_lookup.specs.declared.messages.messages.Message.TheVariants.{Dependencies}
+use Rattle.type_object.specs.visits.Visits.{Known}
 use Rattle.lookup_replies.specs.Replies.{served, page, point_after, dependencies, index_of}
 
 abbrev id : ℕ → HashId

@@ -1,13 +1,13 @@
 ghost use Rattle.std.specs.Prelude.{◌≡◌, true, IfOk};
 ghost use Rattle.type_registry.specs.Passed.{known, Grows};
-ghost use Rattle.lookup_messages.specs.Spelling.{HasFrame, IsPoint};
+ghost use Rattle.type_lookup.specs.messages.Spelling.{HasFrame, IsPoint};
 ghost use Rattle.lookup_replies.specs.Replies.{IsReply, is_request, depends, dependencies as dependencies_of, index_of as index_of_point};
 
 use crate::gets::objects;
 use crate::pages::{entries, index_of, listed, page_ids, point_after};
 use crate::puts::outcomes;
-use lookup_messages::Message;
 use std::alloc::Global;
+use type_lookup::messages::Message;
 use type_registry::{Naming, Pass, Registry};
 use type_trees::HashId;
 use xt_lists::{OutOfMemory, Text};

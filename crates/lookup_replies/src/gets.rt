@@ -2,13 +2,13 @@ ghost use Rattle.std.specs.Prelude.{◌≡◌, ◌≤◌, ◌+◌, length, IfOk}
 ghost use Rattle.std.specs.List.{All};
 ghost use Rattle.type_registry.specs.Passed.{known, Grows};
 ghost use Rattle.type_trees.specs.Ids.{id_octets};
-ghost use Rattle.lookup_messages.specs.Spelling.{IsKnownId, IsFetched, fetched_octets, all_octets};
+ghost use Rattle.type_lookup.specs.messages.Spelling.{IsKnownId, IsFetched, fetched_octets, all_octets};
 ghost use Rattle.lookup_replies.specs.Replies.{served};
 
 use crate::look_up::look_up;
-use lookup_messages::Fetched;
-use object_visits::Ids;
 use std::alloc::Global;
+use type_lookup::messages::Fetched;
+use type_object::visits::Ids;
 use type_registry::{Naming, Pass, Registry};
 use type_trees::HashId;
 use xt_lists::{OutOfMemory, Row, Text};

@@ -2,7 +2,7 @@ ghost use Rattle.std.specs.Prelude.{◌≡◌, ◌≢◌, None, Some, IfOk, Matc
 ghost use Rattle.type_trees.specs.declared.types.HashId.{HashId};
 ghost use Rattle.type_object.specs.Pools.{object_in};
 ghost use Rattle.type_registry.specs.Passed.{known, Grows};
-ghost use Rattle.object_visits.specs.Visits.{references_in};
+ghost use Rattle.type_object.specs.visits.Visits.{references_in};
 
 use std::alloc::Global;
 use type_object::{ObjectFault, read_object, references};

@@ -3,14 +3,14 @@ ghost use Rattle.std.specs.List.{All};
 ghost use Rattle.type_trees.specs.declared.types.HashId.{HashId};
 ghost use Rattle.type_object.specs.References.{is_among};
 ghost use Rattle.type_registry.specs.Passed.{known, Grows};
-ghost use Rattle.lookup_messages.specs.Spelling.{IsNeeded, IsPoint, IsNeededInRange};
-ghost use Rattle.object_visits.specs.Visits.{is_known};
+ghost use Rattle.type_lookup.specs.messages.Spelling.{IsNeeded, IsPoint, IsNeededInRange};
+ghost use Rattle.type_object.specs.visits.Visits.{is_known};
 ghost use Rattle.lookup_replies.specs.Replies.{depends, needed as needed_of, index_of as index_of_point, page as page_of, point_after as point_behind};
 
 use crate::visits::visit;
-use lookup_messages::Needed;
-use object_visits::Ids;
 use std::alloc::Global;
+use type_lookup::messages::Needed;
+use type_object::visits::Ids;
 use type_registry::{Naming, Pass, Registry};
 use type_trees::HashId;
 use xt_lists::{OutOfMemory, Row, Text};

@@ -1,11 +1,11 @@
 ghost use Rattle.std.specs.Prelude.{◌≡◌, ◌≢◌, [], suc, false, length, IfOk, IsTrue, ℕ};
 ghost use Rattle.type_registry.specs.Passed.{known, Grows};
-ghost use Rattle.object_visits.specs.Visits.{met};
+ghost use Rattle.type_object.specs.visits.Visits.{met};
 ghost use Rattle.lookup_replies.specs.Walks.{Tells, Leads, Further};
 
 use crate::look_up::{look_up, references_of};
-use object_visits::{Ids, Todo};
 use std::alloc::Global;
+use type_object::visits::{Ids, Todo};
 use type_registry::{Naming, Pass, Registry};
 use type_trees::HashId;
 use xt_lists::{OutOfMemory, Row};

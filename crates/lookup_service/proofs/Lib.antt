@@ -1,1 +1,4 @@
+pub mod OfChains
+pub mod OfLink
+pub mod OfWorkers
 pub mod Going

@@ -1,2 +1,5 @@
+pub mod chains
+pub mod link
+pub mod workers
 pub mod States
 pub mod Sessions

@@ -1,7 +1,7 @@
 -- Replies over a rising list of states of a pass (own). What is asked for is DDS-XTypes 1.3, 7.6.3.3.
 use Rattle.std.specs.Prelude.{◌≡◌, ℕ, List, [], ◌∷◌}
-use Rattle.lookup_messages.specs.declared.messages.Message.{Message}
-use Rattle.lookup_messages.specs.Spelling.{HasFrame}
+use Rattle.type_lookup.specs.declared.messages.messages.Message.{Message}
+use Rattle.type_lookup.specs.messages.Spelling.{HasFrame}
 use Rattle.type_registry.specs.Passed.{PassView, known, Grows, IsPass}
 use Rattle.lookup_replies.specs.Replies.{IsReply}
 

@@ -2,9 +2,12 @@
 //! limit and how a session ends are this profile's own.
 #![tactic(auto)]
 
+pub mod chains;
 mod ended;
 mod gate;
+pub mod link;
 mod sessions;
+pub mod workers;
 
 pub use ended::Ended;
 pub use gate::{Gate, NoGate};

@@ -1,6 +1,6 @@
 //! The session over a link.
 ghost use Rattle.std.specs.Prelude.{◌≡◌, ◌≤◌, true, length, IfOk};
-ghost use Rattle.lookup_messages.specs.Spelling.{HasFrame, frame_of};
+ghost use Rattle.type_lookup.specs.messages.Spelling.{HasFrame, frame_of};
 ghost use Rattle.type_registry.specs.Passed.{Grows};
 ghost use Rattle.lookup_replies.specs.Replies.{is_request as is_request_message};
 ghost use Rattle.lookup_service.specs.States.{IsStep};

@@ -3,7 +3,7 @@ use Rattle.std.proofs.Common.{◌≡◌, refl, ap, ◌∙◌, sym, ℕ, ℤ, Som
 use Rattle.xt_shapes.specs.declared.leaves.Ext.{Ext}
 use Rattle.xt_shapes.specs.declared.leaves.Primitive.{Primitive}
 use Rattle.std.specs.Ordering.{int_eq}
-use Rattle.distinct_items.specs.InBlocks.{holds_one}
+use Rattle.node_rules.specs.distinct.InBlocks.{holds_one}
 use Rattle.xt_shapes.specs.Lists.{all, has}
 use Rattle.xt_shapes.specs.Shape.{Literal, Shape, prim, str, enumeration, bitmask, sequence, array, map_of, structure, union}
 use Rattle.xt_shapes.specs.Kinds.{as_enum, as_prim}

@@ -1,3 +1,4 @@
+pub mod OfDistinct
 pub mod Scopes
 pub mod Mapped
 pub mod Limits

@@ -1,3 +1,4 @@
+pub mod distinct
 pub mod Names
 pub mod Rules
 pub mod Table

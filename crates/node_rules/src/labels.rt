@@ -9,10 +9,10 @@ ghost use Rattle.xt_shapes.specs.NodeRules.{distinct};
 ghost use Rattle.xt_shapes.specs.NodeRules as node;
 ghost use Rattle.node_rules.specs.Rules as spec;
 
+use crate::distinct::{Numbers, all_among, all_distinct};
 use crate::kinds::is_discriminator;
 use crate::literals::Values;
 use crate::numbers::{has_literal, is_of_prim};
-use distinct_items::{Numbers, all_among, all_distinct};
 use type_trees::{Case, Literal, XType, as_enum, as_prim};
 use xt_shapes::Prim;
 

@@ -1,6 +1,7 @@
 //! The rules of valid types at one node of a type, and which numbers a primitive and an enumeration have. Nothing here takes memory.
 #![tactic(auto)]
 
+pub mod distinct;
 mod keys;
 mod kinds;
 mod labels;

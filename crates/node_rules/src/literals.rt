@@ -6,7 +6,7 @@ ghost use Rattle.xt_shapes.specs.NodeRules.{distinct};
 ghost use Rattle.xt_shapes.specs.NodeRules as node;
 ghost use Rattle.node_rules.specs.Rules as spec;
 
-use distinct_items::{Numbers, all_distinct};
+use crate::distinct::{Numbers, all_distinct};
 use type_trees::{EnumType, Flag, Literal, MaskType};
 use xt_shapes::Ext;
 

@@ -5,8 +5,8 @@ ghost use Rattle.xt_shapes.specs.Lists.{all};
 ghost use Rattle.node_rules.specs.Names as named;
 ghost use Rattle.xt_shapes.specs.NodeRules as node;
 
+use crate::distinct::{Numbers, all_distinct};
 use crate::octets::name_fits;
-use distinct_items::{Numbers, all_distinct};
 use type_trees::{Case, Flag, Literal, Member, Name, name_number};
 
 /// An item with a name: a member, case, literal or flag.

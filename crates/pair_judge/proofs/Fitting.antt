@@ -13,14 +13,14 @@ use Rattle.xcdr_model.specs.declared.verdict.Rule.{Rule}
 use Rattle.xcdr_model.specs.Keys.{key_fit, keys_fit, same_counted}
 use Rattle.xcdr_model.specs.Failure.{First, rule, and_then, step, key_failure, top_rules}
 use Rattle.type_object.specs.Pools.{Texts}
-use Rattle.object_nodes.specs.declared.nodes.Node.{Node}
-use Rattle.object_nodes.specs.declared.parts.Part.{Part}
+use Rattle.pair_memo.specs.declared.nodes.nodes.Node.{Node}
+use Rattle.pair_memo.specs.declared.nodes.parts.Part.{Part}
 use Rattle.pair_judge.specs.declared.stops.Stop.{Stop}
 use Rattle.pair_judge.specs.Judged.{Ends}
-use Rattle.object_nodes.specs.Seen as seen
-use Rattle.object_nodes.specs.Seen.{See, members_in}
-use Rattle.object_nodes.specs.Views.{part_view, parts_in, bare, node_shape}
-use Rattle.object_nodes.proofs.Heads.{any_key_bare, counted_bare}
+use Rattle.pair_memo.specs.nodes.Seen as seen
+use Rattle.pair_memo.specs.nodes.Seen.{See, members_in}
+use Rattle.pair_memo.specs.nodes.Views.{part_view, parts_in, bare, node_shape}
+use Rattle.pair_memo.proofs.OfNodes.Heads.{any_key_bare, counted_bare}
 use Rattle.pair_judge.proofs.Ends.{ends_and_then, ends_rule}
 use Rattle.node_judge.proofs.Failing.{rule_true, rule_false, and_then_none, and_then_some, step_none, step_some, key_failure_none, key_failure_step}
 

@@ -10,13 +10,13 @@ use Rattle.xt_shapes.specs.Shape.{Shape, CaseHead, structure, union, Cases, no_c
 use Rattle.xt_shapes.specs.Select.{shape_at, default_case, case_at}
 use Rattle.xcdr_model.specs.declared.verdict.Policy.{Policy}
 use Rattle.xcdr_model.specs.Failure.{First, and_then, step, if_some, strong, failure, index_failure, id_failure, case_failure, first_of, case_pair, case_pairs, all_labels, structure_rules, structure_ends, union_rules}
-use Rattle.object_nodes.specs.declared.parts.Part.{Part}
-use Rattle.object_nodes.specs.declared.parts.Arm.{Arm}
+use Rattle.pair_memo.specs.declared.nodes.parts.Part.{Part}
+use Rattle.pair_memo.specs.declared.nodes.parts.Arm.{Arm}
 use Rattle.pair_judge.specs.declared.stops.Stop.{Stop}
 use Rattle.pair_judge.specs.Judged.{Says, Ends}
-use Rattle.object_nodes.specs.Seen as seen
-use Rattle.object_nodes.specs.Seen.{See, members_in, cases_in}
-use Rattle.object_nodes.specs.Views.{part_view, arm_view, parts_in, arms_in, bare_cases}
+use Rattle.pair_memo.specs.nodes.Seen as seen
+use Rattle.pair_memo.specs.nodes.Seen.{See, members_in, cases_in}
+use Rattle.pair_memo.specs.nodes.Views.{part_view, arm_view, parts_in, arms_in, bare_cases}
 use Rattle.node_judge.proofs.Failing.{and_then_none, and_then_some, index_failure_left, index_failure_right, index_failure_step, id_failure_none, id_failure_step, first_of_none, first_of_step, failure_structure, failure_union, of_kind_some, if_some_some, if_some_none, case_failure_none, case_failure_step}
 use Rattle.pair_judge.proofs.Ends.{ends_and_then}
 

@@ -3,17 +3,17 @@ use Rattle.std.proofs.Common.{◌≡◌, refl, sym, subst, ◌∙◌, ℕ, suc, 
 use Rattle.std.proofs.lemmas.List.{drop_more}
 use Rattle.std.proofs.lemmas.Bool.{and_parts}
 use Rattle.xcdr_model.specs.Equivalence.{same_shape, same_head, same_case_head, same_members, same_cases}
-use Rattle.object_nodes.specs.declared.nodes.Node.{Node}
-use Rattle.object_nodes.specs.declared.parts.Part.{Part}
-use Rattle.object_nodes.specs.declared.parts.Arm.{Arm}
+use Rattle.pair_memo.specs.declared.nodes.nodes.Node.{Node}
+use Rattle.pair_memo.specs.declared.nodes.parts.Part.{Part}
+use Rattle.pair_memo.specs.declared.nodes.parts.Arm.{Arm}
 use Rattle.std.specs.Bool.{beq}
 use Rattle.std.specs.Prelude.{IfOk, Result, Ok, Err}
 use Rattle.xt_shapes.specs.declared.leaves.Ext.{Ext}
 use Rattle.xt_shapes.specs.Kinds.{same_ext}
 use Rattle.xt_shapes.specs.Shape.{Shape, structure, union, Members, Cases}
-use Rattle.object_nodes.specs.Seen as seen
-use Rattle.object_nodes.specs.Seen.{See, members_in, cases_in}
-use Rattle.object_nodes.specs.Views.{part_view, arm_view, parts_in, arms_in, node_shape}
+use Rattle.pair_memo.specs.nodes.Seen as seen
+use Rattle.pair_memo.specs.nodes.Seen.{See, members_in, cases_in}
+use Rattle.pair_memo.specs.nodes.Views.{part_view, arm_view, parts_in, arms_in, node_shape}
 use Rattle.type_object.specs.Pools.{Texts}
 
 both_false : (b : Bool) → (b && false) ≡ false

@@ -14,8 +14,8 @@ use Rattle.type_rules.proofs.Kept.{rules_kept}
 use Rattle.object_formats.specs.Objects.{hash}
 use Rattle.type_object.specs.Pools.{Texts}
 use Rattle.object_walks.specs.Resolving.{Refusal, Stop, checked, settled, resolved, walked}
-use Rattle.object_nodes.specs.Seen.{shape_in, is_seen}
-use Rattle.object_nodes.proofs.Resolved.{resolved_seen}
+use Rattle.pair_memo.specs.nodes.Seen.{shape_in, is_seen}
+use Rattle.pair_memo.proofs.OfNodes.Resolved.{resolved_seen}
 use Rattle.assignability.specs.Views.{verdict_view}
 use Rattle.assignability.specs.declared.verdict.Verdict.{Verdict}
 use Rattle.assignability.proofs.YesSteps.{yes_is}

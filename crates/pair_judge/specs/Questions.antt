@@ -12,11 +12,11 @@ use Rattle.object_formats.specs.declared.objects.ObjectCase.{ObjectCase}
 use Rattle.object_formats.specs.declared.objects.ObjectMember.{ObjectMember}
 use Rattle.object_formats.specs.declared.objects.TypeIdentifier.{TypeIdentifier}
 use Rattle.object_formats.specs.View as view
-use Rattle.object_nodes.specs.declared.nodes.Node.{Node}
-use Rattle.object_nodes.specs.declared.parts.Arm.{Arm}
-use Rattle.object_nodes.specs.declared.parts.Part.{Part}
-use Rattle.object_nodes.specs.Seen.{shape_in, is_seen, all_parts, arm_in, members_in, cases_in, parts_pass, arms_pass}
-use Rattle.object_nodes.specs.Views.{node_shape, node_seen, part_view, arm_view, parts_in, arms_in, parts_seen, arms_seen}
+use Rattle.pair_memo.specs.declared.nodes.nodes.Node.{Node}
+use Rattle.pair_memo.specs.declared.nodes.parts.Arm.{Arm}
+use Rattle.pair_memo.specs.declared.nodes.parts.Part.{Part}
+use Rattle.pair_memo.specs.nodes.Seen.{shape_in, is_seen, all_parts, arm_in, members_in, cases_in, parts_pass, arms_pass}
+use Rattle.pair_memo.specs.nodes.Views.{node_shape, node_seen, part_view, arm_view, parts_in, arms_in, parts_seen, arms_seen}
 use Rattle.pair_memo.specs.Entries.{Entry}
 use Rattle.pair_memo.specs.Memos.{IsMemo}
 use Rattle.pair_judge.specs.declared.question.Question.{Question}

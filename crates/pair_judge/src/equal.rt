@@ -1,7 +1,7 @@
 ghost use Rattle.std.specs.Prelude.{◌≡◌, ◌+◌, ◌&&◌, length, IfOk};
 ghost use Rattle.object_formats.specs.Objects.{hash};
 ghost use Rattle.object_formats.specs.View as view;
-ghost use Rattle.object_nodes.specs.Views.{part_view, arm_view};
+ghost use Rattle.pair_memo.specs.nodes.Views.{part_view, arm_view};
 ghost use Rattle.pair_judge.specs.Questions.{ArmSeen, ArmsSeen, CasesSeen, IsKept, IsSeen, NodeSeen, PartSeen, PartsSeen, StructureSeen, arm_shape, arm_shapes, part_shape, part_shapes, shape_at_node, shape_of, structure_of, union_of};
 ghost use Rattle.pair_memo.specs.Memos.{state_for};
 ghost use Rattle.xcdr_model.specs.Equivalence as spec;
@@ -11,7 +11,7 @@ use node_judge::{
     same_case_head, same_dims, same_ext, same_flags, same_head, same_kind_of_union, same_literals,
 };
 use object_formats::{ObjectCase, ObjectMember, TypeIdentifier};
-use object_nodes::{Arm, Node, Part, cases_of, members_of, node_of};
+use pair_memo::nodes::{Arm, Node, Part, cases_of, members_of, node_of};
 use pair_memo::{Kind, Memo, State, Steps};
 use std::sync::ledger::Ledger;
 use type_trees::HashId;
@@ -110,7 +110,7 @@ impl<'p> Question<'p> {
     }
 
     #[cycle(equal)]
-    #[tactic(auto, using(object_nodes::proofs::Levels::both_rules))]
+    #[tactic(auto, using(pair_memo::proofs::OfNodes::Levels::both_rules))]
     fn same_kinds<L: Ledger>(
         &self,
         memo: &mut Memo,

@@ -1,7 +1,7 @@
 ghost use Rattle.std.specs.Prelude.{IfOk, IsOk, IsTrue, All};
 ghost use Rattle.assignability.specs.Views.{verdict_view};
 ghost use Rattle.object_formats.specs.Objects.{hash};
-ghost use Rattle.object_nodes.specs.Seen.{shape_in, is_seen};
+ghost use Rattle.pair_memo.specs.nodes.Seen.{shape_in, is_seen};
 ghost use Rattle.object_walks.specs.Laws.{IsReached};
 ghost use Rattle.object_walks.specs.Resolving.{resolved};
 ghost use Rattle.pair_judge.specs.Judged.{Says, IsFew};

@@ -1,5 +1,5 @@
 ghost use Rattle.std.specs.Prelude.{◌≡◌, ◌||◌, ◌&&◌, not, None, IfOk};
-ghost use Rattle.object_nodes.specs.Views.{bare, part_view};
+ghost use Rattle.pair_memo.specs.nodes.Views.{bare, part_view};
 ghost use Rattle.pair_judge.specs.Judged.{Says, IsShort};
 ghost use Rattle.pair_judge.specs.Questions.{IsSeen, NodeSeen, PartSeen, PartsSeen, StructureSeen, fits_at, part_shape, part_shapes, shape_at_node, shape_of, structure_of};
 ghost use Rattle.xcdr_model.specs.Failure as failures;
@@ -15,7 +15,7 @@ use node_judge::{
     union_delimited, values_within,
 };
 use object_formats::{ObjectMember, TypeIdentifier};
-use object_nodes::{Node, Part, members_of, node_of, part_at};
+use pair_memo::nodes::{Node, Part, members_of, node_of, part_at};
 use xcdr_model::Rule;
 use xt_lists::OutOfMemory;
 use xt_shapes::{Ext, Step};
@@ -176,7 +176,7 @@ impl<'p> Question<'p> {
 
     /// Whether the same ids are counted, and the types of each counted member fit.
     #[cycle(key_fit)]
-    #[tactic(auto, using(object_nodes::proofs::Heads::bare_rules))]
+    #[tactic(auto, using(pair_memo::proofs::OfNodes::Heads::bare_rules))]
     fn members_fit(
         &self,
         levels: u32,
@@ -293,7 +293,7 @@ impl<'p> Question<'p> {
     }
 
     /// The rules on keys, which only the top pair has. They belong to its examination.
-    #[tactic(auto, using(crate::proofs::Ends::says_rules, object_nodes::proofs::Heads::bare_rules))]
+    #[tactic(auto, using(crate::proofs::Ends::says_rules, pair_memo::proofs::OfNodes::Heads::bare_rules))]
     pub(crate) fn top_rules(
         &self,
         top: bool,

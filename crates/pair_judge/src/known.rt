@@ -1,6 +1,6 @@
 ghost use Rattle.std.specs.Prelude.{◌≡◌, ◌+◌, length, IfSome};
 ghost use Rattle.object_formats.specs.Objects.{hash};
-ghost use Rattle.object_nodes.specs.Seen.{shape_in};
+ghost use Rattle.pair_memo.specs.nodes.Seen.{shape_in};
 ghost use Rattle.pair_judge.specs.Questions.{IsKept};
 ghost use Rattle.pair_memo.specs.Memos.{IsSo};
 

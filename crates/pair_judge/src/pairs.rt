@@ -2,7 +2,7 @@ ghost use Rattle.std.specs.Prelude.{◌≡◌, ◌+◌, ◌≤◌, ◌||◌, len
 ghost use Rattle.std.specs.Option.{option_map};
 ghost use Rattle.object_formats.specs.Objects.{hash};
 ghost use Rattle.object_formats.specs.View as view;
-ghost use Rattle.object_nodes.specs.Views.{bare_cases};
+ghost use Rattle.pair_memo.specs.nodes.Views.{bare_cases};
 ghost use Rattle.pair_judge.specs.Judged.{Says, IsShort};
 ghost use Rattle.pair_judge.specs.Questions.{ArmSeen, ArmsSeen, CasesSeen, IsKept, IsSeen, NodeSeen, PartSeen, PartsSeen, StructureSeen, arm_shape, arm_shapes, failure_in, label_rules_in, part_shape, part_shapes, shape_at_node, shape_of, strong_in, structure_of, structure_rules_in, union_of};
 ghost use Rattle.xcdr_model.specs.Equivalence.{same_shape};
@@ -19,7 +19,7 @@ use node_judge::{
     same_case_names, same_dims, same_ext, same_names, same_places, select,
 };
 use object_formats::{ObjectCase, ObjectMember, TypeIdentifier};
-use object_nodes::{Arm, Node, Part, arm_at, cases_of, members_of, node_of, part_at};
+use pair_memo::nodes::{Arm, Node, Part, arm_at, cases_of, members_of, node_of, part_at};
 use pair_memo::{Kind, Memo, State, Steps};
 use std::sync::ledger::Ledger;
 use type_trees::HashId;
@@ -210,7 +210,7 @@ impl<'p> Question<'p> {
     }
 
     #[cycle(pairs)]
-    #[tactic(auto, using(crate::proofs::Ends::says_rules, node_judge::proofs::Failing::step_rules, node_judge::proofs::Failing::kind_rules, object_nodes::proofs::Levels::both_rules))]
+    #[tactic(auto, using(crate::proofs::Ends::says_rules, node_judge::proofs::Failing::step_rules, node_judge::proofs::Failing::kind_rules, pair_memo::proofs::OfNodes::Levels::both_rules))]
     fn kinds<L: Ledger>(
         &self,
         memo: &mut Memo,

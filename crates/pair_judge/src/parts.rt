@@ -2,7 +2,7 @@ ghost use Rattle.std.specs.Prelude.{◌≡◌, ◌+◌, ◌≤◌, ◌||◌, len
 ghost use Rattle.std.specs.Option.{option_map};
 ghost use Rattle.object_formats.specs.Objects.{hash};
 ghost use Rattle.object_formats.specs.View as view;
-ghost use Rattle.object_nodes.specs.Views.{bare_cases};
+ghost use Rattle.pair_memo.specs.nodes.Views.{bare_cases};
 ghost use Rattle.pair_judge.specs.Judged.{Says, IsShort};
 ghost use Rattle.pair_judge.specs.Questions.{ArmSeen, ArmsSeen, CasesSeen, IsKept, IsSeen, NodeSeen, PartSeen, PartsSeen, StructureSeen, arm_shape, arm_shapes, failure_in, label_rules_in, part_shape, part_shapes, shape_at_node, shape_of, strong_in, structure_of, structure_rules_in, union_of};
 ghost use Rattle.xcdr_model.specs.Equivalence.{same_shape};
@@ -19,7 +19,7 @@ use node_judge::{
     same_case_names, same_dims, same_ext, same_names, same_places, select,
 };
 use object_formats::{ObjectCase, ObjectMember, TypeIdentifier};
-use object_nodes::{Arm, Node, Part, arm_at, cases_of, members_of, node_of, part_at};
+use pair_memo::nodes::{Arm, Node, Part, arm_at, cases_of, members_of, node_of, part_at};
 use pair_memo::{Kind, Memo, State, Steps};
 use std::sync::ledger::Ledger;
 use type_trees::HashId;
@@ -30,7 +30,7 @@ impl<'p> Question<'p> {
     // ---- structures
 
     #[cycle(pairs)]
-    #[tactic(auto, using(crate::proofs::Ends::says_rules, node_judge::proofs::Failing::step_rules, node_judge::proofs::Failing::structure_rules_is, object_nodes::proofs::Heads::bare_rules))]
+    #[tactic(auto, using(crate::proofs::Ends::says_rules, node_judge::proofs::Failing::step_rules, node_judge::proofs::Failing::structure_rules_is, pair_memo::proofs::OfNodes::Heads::bare_rules))]
     pub(crate) fn structures<L: Ledger>(
         &self,
         memo: &mut Memo,
@@ -66,7 +66,7 @@ impl<'p> Question<'p> {
     }
 
     #[cycle(pairs)]
-    #[tactic(auto, using(crate::proofs::Ends::says_rules, node_judge::proofs::Failing::step_rules, node_judge::proofs::Failing::end_rules, object_nodes::proofs::Heads::bare_rules))]
+    #[tactic(auto, using(crate::proofs::Ends::says_rules, node_judge::proofs::Failing::step_rules, node_judge::proofs::Failing::end_rules, pair_memo::proofs::OfNodes::Heads::bare_rules))]
     fn structure_ends<L: Ledger>(
         &self,
         memo: &mut Memo,
@@ -221,7 +221,7 @@ impl<'p> Question<'p> {
     // ---- unions
 
     #[cycle(pairs)]
-    #[tactic(auto, using(crate::proofs::Ends::says_rules, node_judge::proofs::Failing::step_rules, object_nodes::proofs::Heads::bare_rules, crate::proofs::Paired::pair_rules))]
+    #[tactic(auto, using(crate::proofs::Ends::says_rules, node_judge::proofs::Failing::step_rules, pair_memo::proofs::OfNodes::Heads::bare_rules, crate::proofs::Paired::pair_rules))]
     pub(crate) fn cases<L: Ledger>(
         &self,
         memo: &mut Memo,
@@ -300,7 +300,7 @@ impl<'p> Question<'p> {
     }
 
     #[cycle(pairs)]
-    #[tactic(auto, using(crate::proofs::Ends::says_rules, node_judge::proofs::Failing::step_rules, node_judge::proofs::Failing::case_pair_is, object_nodes::proofs::Heads::bare_rules))]
+    #[tactic(auto, using(crate::proofs::Ends::says_rules, node_judge::proofs::Failing::step_rules, node_judge::proofs::Failing::case_pair_is, pair_memo::proofs::OfNodes::Heads::bare_rules))]
     fn by_label<L: Ledger>(
         &self,
         memo: &mut Memo,
@@ -329,7 +329,7 @@ impl<'p> Question<'p> {
     }
 
     #[cycle(pairs)]
-    #[tactic(auto, using(crate::proofs::Ends::says_rules, node_judge::proofs::Failing::step_rules, object_nodes::proofs::Heads::bare_rules))]
+    #[tactic(auto, using(crate::proofs::Ends::says_rules, node_judge::proofs::Failing::step_rules, pair_memo::proofs::OfNodes::Heads::bare_rules))]
     fn defaults<L: Ledger>(
         &self,
         memo: &mut Memo,

@@ -1,3 +1,4 @@
+pub mod OfNodes
 pub mod SameKeys
 pub mod Kept
 pub mod Reaching

@@ -1,3 +1,4 @@
+pub mod nodes
 pub mod Entries
 pub mod Memos
 pub mod Bound

@@ -11,7 +11,7 @@ use Rattle.type_trees.specs.declared.types.HashId.{HashId}
 use Rattle.object_formats.specs.Objects.{hash}
 use Rattle.type_object.specs.Pools.{Texts}
 use Rattle.type_object.specs.References.{is_among}
-use Rattle.object_nodes.specs.Seen.{shape_in}
+use Rattle.pair_memo.specs.nodes.Seen.{shape_in}
 use Rattle.pair_memo.specs.declared.memo.Kind.{Kind}
 use Rattle.pair_memo.specs.declared.memo.Kind.TheVariants as k
 use Rattle.pair_memo.specs.declared.memo.Pair.{Pair}

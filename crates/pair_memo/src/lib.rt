@@ -4,6 +4,7 @@
 
 mod laws;
 mod memo;
+pub mod nodes;
 mod reach;
 mod steps;
 

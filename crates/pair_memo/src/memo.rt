@@ -1,6 +1,6 @@
 ghost use Rattle.std.specs.Prelude.{◌≡◌, ◌+◌, [], length, List, IfSome};
 ghost use Rattle.object_formats.specs.Objects.{hash};
-ghost use Rattle.object_nodes.specs.Seen.{shape_in};
+ghost use Rattle.pair_memo.specs.nodes.Seen.{shape_in};
 ghost use Rattle.pair_memo.specs.Memos.{IsMemo, IsSo};
 ghost use Rattle.type_object.specs.Pools.{Texts};
 ghost use Rattle.type_trees.specs.declared.types.HashId.{HashId as Identifier};

@@ -9,7 +9,7 @@ use Rattle.type_trees.specs.Trees.{Tree, prim, str, enumeration, bitmask, sequen
 use Rattle.type_trees.specs.Bridge.{member_shapes, case_shapes}
 use Rattle.node_rules.specs.Names.{scope_fits}
 use Rattle.node_rules.specs.Table.{failing, enum_names, mask_names, struct_names, union_names}
-use Rattle.rule_laws.proofs.Nodes.{rules_hold}
+use Rattle.type_rules.proofs.OfFaultless.Nodes.{rules_hold}
 use Rattle.type_rules.specs.Valid.{first_fault, fault_inside, members_fault, cases_fault, type_fault}
 use Rattle.type_rules.proofs.DeepSteps.{first_none, unmapped}
 use Rattle.type_rules.proofs.FaultSteps.{fault_is, inside_sequence, inside_array, inside_map, inside_structure, inside_union, inside_alias, members_fault_step, cases_fault_step}

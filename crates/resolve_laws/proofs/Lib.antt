@@ -1,3 +1,4 @@
+pub mod OfParsed
 pub mod Texts
 pub mod Fields
 pub mod Hashes

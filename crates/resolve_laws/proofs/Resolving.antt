@@ -4,7 +4,7 @@ use Rattle.xt_shapes.specs.declared.leaves.Step.{Step}
 use Rattle.type_trees.specs.declared.types.HashId.{HashId}
 use Rattle.type_trees.specs.Trees.{Tree}
 use Rattle.type_rules.specs.Valid.{type_fault}
-use Rattle.rule_laws.proofs.Parts.{each_part_is_valid}
+use Rattle.type_rules.proofs.OfFaultless.Parts.{each_part_is_valid}
 use Rattle.type_object.specs.Pools.{Texts}
 use Rattle.object_walks.specs.Resolving.{Stop, Refusal, checked, settled, resolved, walked}
 use Rattle.object_walks.proofs.Freely.{parts_are_walked, resolved_is_walked}

@@ -3,8 +3,8 @@ use Rattle.std.specs.Prelude.{◌≡◌, [], true, Some, None, Ok}
 use Rattle.type_trees.specs.declared.types.HashId.{HashId}
 use Rattle.type_trees.specs.Trees.{Tree}
 use Rattle.type_rules.specs.Valid.{type_fault}
-use Rattle.rule_laws.specs.Laws.{AreValid}
-use Rattle.rule_laws.specs.Parts.{parts}
+use Rattle.type_rules.specs.faultless.Laws.{AreValid}
+use Rattle.type_rules.specs.faultless.Parts.{parts}
 use Rattle.object_formats.specs.Objects as o
 use Rattle.object_formats.specs.Objects.{Object}
 use Rattle.type_object.specs.Pools.{Texts, object_at}

@@ -1,2 +1,3 @@
+pub mod parsed
 pub mod Named
 pub mod Laws

@@ -3,6 +3,7 @@
 
 mod laws;
 mod names;
+pub mod parsed;
 
 pub use laws::{objects_are_well_formed, parts_resolve, resolves_to_itself, valid_resolves};
 pub use names::is_named;

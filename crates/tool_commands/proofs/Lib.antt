@@ -1,2 +1,3 @@
+pub mod OfListing
 pub mod Wrapped
 pub mod Quiet

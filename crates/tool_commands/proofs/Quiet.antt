@@ -4,10 +4,10 @@ use Rattle.std.specs.declared.option.Option.{Option}
 use Rattle.std.proofs.KnownBytes.{Appends-nil}
 use Rattle.xt_io.specs.declared.Item.{Item}
 use Rattle.xt_io.specs.Bundles.{nothing}
-use Rattle.tool_output.specs.declared.ending.Style.{Style}
-use Rattle.tool_output.specs.Outputs.{Output, Turn, after_pieces, finished, run}
-use Rattle.tool_output.specs.Runs.{Steps}
-use Rattle.tool_output.proofs.Turning.{run_at_end}
+use Rattle.tool_runs.specs.declared.output.ending.Style.{Style}
+use Rattle.tool_runs.specs.output.Outputs.{Output, Turn, after_pieces, finished, run}
+use Rattle.tool_runs.specs.output.Runs.{Steps}
+use Rattle.tool_runs.proofs.OfOutput.Turning.{run_at_end}
 
 pub before : (style : Style) (rest : Output) (now : Option (List ℕ)) → Steps {T = Unit {0}} style (Some (after_pieces [] rest)) (Some rest) (Ok tt) now now
 before style rest now = ([], refl, Appends-nil now)

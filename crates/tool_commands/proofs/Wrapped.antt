@@ -9,18 +9,18 @@ use Rattle.xt_io.specs.declared.Kind.{Kind}
 use Rattle.xt_io.specs.Bundles.{limit_of}
 use Rattle.xt_io.specs.Outside.{AppendsPrefix, TakesUpTo}
 use Rattle.xt_io.specs.Records.{record_octets}
-use Rattle.tool_output.specs.declared.ending.Ending.{Ending}
-use Rattle.tool_output.specs.declared.ending.Ending.TheVariants.{Done}
-use Rattle.tool_output.specs.declared.ending.Style.{Style}
-use Rattle.tool_output.specs.declared.ending.Style.TheVariants.{Lines}
-use Rattle.tool_output.specs.declared.halt.Halt.{Halt}
-use Rattle.tool_output.specs.declared.halt.Halt.TheVariants as halts
-use Rattle.tool_output.specs.declared.stop.Stop.{Stop}
-use Rattle.tool_output.specs.declared.stop.Stop.TheVariants as stops
-use Rattle.tool_output.specs.Texts.{bundle_text}
-use Rattle.tool_output.specs.Outputs.{Output, Refusal, bundle_refusal, finished, refused}
-use Rattle.tool_output.specs.Runs.{Ends, Refuses, Writes}
-use Rattle.tool_output.proofs.Written.{piece_is_cut, stops_here}
+use Rattle.tool_runs.specs.declared.output.ending.Ending.{Ending}
+use Rattle.tool_runs.specs.declared.output.ending.Ending.TheVariants.{Done}
+use Rattle.tool_runs.specs.declared.output.ending.Style.{Style}
+use Rattle.tool_runs.specs.declared.output.ending.Style.TheVariants.{Lines}
+use Rattle.tool_runs.specs.declared.output.halt.Halt.{Halt}
+use Rattle.tool_runs.specs.declared.output.halt.Halt.TheVariants as halts
+use Rattle.tool_runs.specs.declared.output.stop.Stop.{Stop}
+use Rattle.tool_runs.specs.declared.output.stop.Stop.TheVariants as stops
+use Rattle.tool_runs.specs.output.Texts.{bundle_text}
+use Rattle.tool_runs.specs.output.Outputs.{Output, Refusal, bundle_refusal, finished, refused}
+use Rattle.tool_runs.specs.output.Runs.{Ends, Refuses, Writes}
+use Rattle.tool_runs.proofs.OfOutput.Written.{piece_is_cut, stops_here}
 use Rattle.tool_runs.specs.Commands.{only}
 use Rattle.tool_runs.specs.Stopping.{Concludes}
 use Rattle.tool_commands.specs.Wrapping.{wrapped}

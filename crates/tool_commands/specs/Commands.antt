@@ -4,9 +4,9 @@ use Rattle.xt_io.specs.declared.Item.{Item}
 use Rattle.xt_io.specs.declared.Kind.TheVariants.{Sample, Json}
 use Rattle.xt_io.specs.Bundles.{Bundle}
 use Rattle.xt_shapes.specs.declared.leaves.Rep.{Rep}
-use Rattle.tool_output.specs.declared.ending.Style.TheVariants.{Lines, Records}
-use Rattle.tool_output.specs.Outputs.{Output, Refusal, ◌>>=◌, after_pieces, run, taking, finished}
-use Rattle.tool_lines.specs.Lines.{read_turn, convert_turn, write_turn}
+use Rattle.tool_runs.specs.declared.output.ending.Style.TheVariants.{Lines, Records}
+use Rattle.tool_runs.specs.output.Outputs.{Output, Refusal, ◌>>=◌, after_pieces, run, taking, finished}
+use Rattle.tool_samples.specs.lines.Lines.{read_turn, convert_turn, write_turn}
 use Rattle.tool_instances.specs.Instancing.{instances_body}
 use Rattle.tool_words.specs.Words.{Pair, Reference}
 use Rattle.tool_verdicts.specs.Verdicts.{id_and_pool, reader_type, top_and_pool, top_type}

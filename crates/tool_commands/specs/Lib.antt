@@ -1,3 +1,4 @@
+pub mod listing
 pub mod Commands
 pub mod Wrapping
 pub mod Making

@@ -4,7 +4,7 @@ use Rattle.std.specs.Fmt.{decimal}
 use Rattle.hex.specs.Hex.{encode_lower}
 use Rattle.xt_vectors.specs.declared.runs.Summary.{Summary}
 use Rattle.xt_vectors.specs.Runs.{summary}
-use Rattle.tool_output.specs.Outputs.{Output}
+use Rattle.tool_runs.specs.output.Outputs.{Output}
 use Rattle.tool_runs.specs.Commands.{only}
 
 abbrev pub verdicts_text : Summary → List ℕ

@@ -3,9 +3,9 @@ use Rattle.std.specs.Prelude.{ℕ, List, [], ◌∷◌, length, nat_lt, if◌the
 use Rattle.xt_io.specs.declared.Kind.{Kind}
 use Rattle.xt_io.specs.Bundles.{limit_of}
 use Rattle.xt_io.specs.Records.{record_octets}
-use Rattle.tool_output.specs.declared.ending.Style.TheVariants.{Lines}
-use Rattle.tool_output.specs.Texts.{bundle_text}
-use Rattle.tool_output.specs.Outputs.{Output, bundle_refusal, refused}
+use Rattle.tool_runs.specs.declared.output.ending.Style.TheVariants.{Lines}
+use Rattle.tool_runs.specs.output.Texts.{bundle_text}
+use Rattle.tool_runs.specs.output.Outputs.{Output, bundle_refusal, refused}
 use Rattle.tool_runs.specs.Commands.{only}
 
 abbrev pub wrapped : Kind → List ℕ → Output

@@ -1,13 +1,13 @@
 ghost use Rattle.std.specs.Prelude.{◌≡◌, ◌≤◌, Some, length};
-ghost use Rattle.tool_output.specs.Outputs.{finished, unless_refused};
-ghost use Rattle.tool_output.specs.Runs.{Steps, StopsWriting};
-ghost use Rattle.tool_front.specs.Reading.{AreWithin};
+ghost use Rattle.tool_runs.specs.output.Outputs.{finished, unless_refused};
+ghost use Rattle.tool_runs.specs.output.Runs.{Steps, StopsWriting};
+ghost use Rattle.tool_runs.specs.front.Reading.{AreWithin};
 ghost use Rattle.tool_runs.specs.Commands.{answer_to};
 ghost use Rattle.tool_words.specs.View.{pair_view};
 ghost use Rattle.tool_commands.specs.Commands.{judge_lines};
 
 use std::alloc::Global;
-use tool_output::{Stop, Style};
+use tool_runs::output::{Stop, Style};
 use tool_runs::{Answers, say_pieces};
 use tool_verdicts::reader_type;
 use tool_words::Pair;
@@ -20,7 +20,7 @@ pub struct Judging<'a> {
 }
 
 impl<'a> Answers for Judging<'a> {
-    ghost use Rattle.tool_output.specs.declared.ending.Style.TheVariants as styles;
+    ghost use Rattle.tool_runs.specs.declared.output.ending.Style.TheVariants as styles;
 
     ghost style = { styles.Lines };
 

@@ -1,15 +1,15 @@
 ghost use Rattle.std.specs.Prelude.{◌≡◌, ◌≤◌, ℕ, [], Some, length};
 ghost use Rattle.xt_io.specs.Bundles.{nothing};
-ghost use Rattle.tool_output.specs.Outputs.{Output, after_pieces, finished};
-ghost use Rattle.tool_output.specs.Runs.{Comes, Steps, StopsWriting};
-ghost use Rattle.tool_front.specs.Reading.{AreWithin};
+ghost use Rattle.tool_runs.specs.output.Outputs.{Output, after_pieces, finished};
+ghost use Rattle.tool_runs.specs.output.Runs.{Comes, Steps, StopsWriting};
+ghost use Rattle.tool_runs.specs.front.Reading.{AreWithin};
 ghost use Rattle.tool_words.specs.View.{pair_view};
 ghost use Rattle.tool_commands.specs.Commands.{instances_lines};
 
 use std::alloc::Global;
 use tool_instances::LastSamples;
-use tool_output::{Halt, Stop, Style, Turns};
 use tool_runs::Prepares;
+use tool_runs::output::{Halt, Stop, Style, Turns};
 use tool_verdicts::reader_type;
 use tool_words::{Depth, Pair};
 use xt_io::{Item, Sink};

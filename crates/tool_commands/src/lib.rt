@@ -3,6 +3,7 @@
 
 mod judging;
 mod keeping;
+pub mod listing;
 mod making;
 mod reading;
 mod recording;

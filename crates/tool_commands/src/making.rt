@@ -1,10 +1,10 @@
 ghost use Rattle.std.specs.Prelude.{◌≡◌, IfOk};
-ghost use Rattle.tool_output.specs.Runs.{Ends, HaltsWriting};
+ghost use Rattle.tool_runs.specs.output.Runs.{Ends, HaltsWriting};
 ghost use Rattle.xt_vectors.specs.Runs.{summary};
 ghost use Rattle.tool_commands.specs.Making as spec;
 
 use std::alloc::Global;
-use tool_output::{Ending, Halt, say};
+use tool_runs::output::{Ending, Halt, say};
 use xt_io::Sink;
 use xt_lists::{OutOfMemory, Text};
 use xt_vectors::{Summary, run};

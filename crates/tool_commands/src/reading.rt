@@ -1,14 +1,14 @@
 ghost use Rattle.std.specs.Prelude.{◌≡◌, ◌≤◌, ℕ, [], Some, length};
 ghost use Rattle.xt_io.specs.Bundles.{nothing};
-ghost use Rattle.tool_output.specs.Outputs.{Output, after_pieces, finished};
-ghost use Rattle.tool_output.specs.Runs.{Comes, Steps, StopsWriting};
-ghost use Rattle.tool_front.specs.Reading.{AreWithin};
+ghost use Rattle.tool_runs.specs.output.Outputs.{Output, after_pieces, finished};
+ghost use Rattle.tool_runs.specs.output.Runs.{Comes, Steps, StopsWriting};
+ghost use Rattle.tool_runs.specs.front.Reading.{AreWithin};
 ghost use Rattle.tool_words.specs.View.{pair_view};
 ghost use Rattle.tool_commands.specs.Commands.{convert_records, read_lines};
 
 use std::alloc::Global;
-use tool_output::{Stop, Style, Turns};
 use tool_runs::Prepares;
+use tool_runs::output::{Stop, Style, Turns};
 use tool_samples::{Conversions, Lines, Samples};
 use tool_verdicts::reader_type;
 use tool_words::Pair;
@@ -24,8 +24,8 @@ pub struct Reading<'a> {
 impl<'a> Prepares for Reading<'a> {
     ghost use Rattle.type_trees.specs.View.{tree};
     ghost use Rattle.xt_io.specs.declared.Kind.TheVariants.{Sample};
-    ghost use Rattle.tool_output.specs.declared.ending.Style.TheVariants as styles;
-    ghost use Rattle.tool_lines.specs.Lines.{read_turn};
+    ghost use Rattle.tool_runs.specs.declared.output.ending.Style.TheVariants as styles;
+    ghost use Rattle.tool_samples.specs.lines.Lines.{read_turn};
 
     type Run = Samples<Lines>;
 
@@ -79,8 +79,8 @@ pub struct Converting<'a> {
 impl<'a> Prepares for Converting<'a> {
     ghost use Rattle.type_trees.specs.View.{tree};
     ghost use Rattle.xt_io.specs.declared.Kind.TheVariants.{Sample};
-    ghost use Rattle.tool_output.specs.declared.ending.Style.TheVariants as styles;
-    ghost use Rattle.tool_lines.specs.Lines.{convert_turn};
+    ghost use Rattle.tool_runs.specs.declared.output.ending.Style.TheVariants as styles;
+    ghost use Rattle.tool_samples.specs.lines.Lines.{convert_turn};
 
     type Run = Samples<Conversions>;
 

@@ -1,15 +1,15 @@
 ghost use Rattle.std.specs.Prelude.{◌≡◌, ◌≤◌, ℕ, [], Some, length};
 ghost use Rattle.xt_io.specs.Bundles.{nothing};
-ghost use Rattle.tool_output.specs.Outputs.{Output, after_pieces, finished};
-ghost use Rattle.tool_output.specs.Runs.{Comes, Steps, StopsWriting};
-ghost use Rattle.tool_front.specs.Reading.{AreWithin};
+ghost use Rattle.tool_runs.specs.output.Outputs.{Output, after_pieces, finished};
+ghost use Rattle.tool_runs.specs.output.Runs.{Comes, Steps, StopsWriting};
+ghost use Rattle.tool_runs.specs.front.Reading.{AreWithin};
 ghost use Rattle.tool_words.specs.View.{reference_view};
 ghost use Rattle.tool_commands.specs.Commands.{replay_lines};
 
 use std::alloc::Global;
-use tool_output::{Stop, Style, Turns};
 use tool_recordings::Replays;
 use tool_runs::Prepares;
+use tool_runs::output::{Stop, Style, Turns};
 use tool_verdicts::top_and_pool;
 use tool_words::Reference;
 use xt_io::{Item, Sink};

@@ -2,14 +2,14 @@ ghost use Rattle.std.specs.Prelude.{◌≡◌, [], ◌∷◌, Ok, codes};
 ghost use Rattle.std.specs.Option.{option_map};
 ghost use Rattle.std.specs.Io.KnownBytes.{IsAtEnd};
 ghost use Rattle.xt_io.specs.Records.{record_octets};
-ghost use Rattle.tool_output.specs.Texts.{bundle_text};
-ghost use Rattle.tool_output.specs.Outputs.{bundle_refusal, refused};
-ghost use Rattle.tool_output.specs.Runs.{Ends, Halts, HaltsWriting, Writes};
+ghost use Rattle.tool_runs.specs.output.Texts.{bundle_text};
+ghost use Rattle.tool_runs.specs.output.Outputs.{bundle_refusal, refused};
+ghost use Rattle.tool_runs.specs.output.Runs.{Ends, Halts, HaltsWriting, Writes};
 ghost use Rattle.tool_runs.specs.Commands.{only};
 ghost use Rattle.tool_commands.specs.Wrapping.{wrapped};
 
 use std::alloc::Global;
-use tool_output::{Ending, Halt, Style, record, refuse_bundle, say};
+use tool_runs::output::{Ending, Halt, Style, record, refuse_bundle, say};
 use tool_runs::stopped;
 use xt_io::{Kind, RecordFault, Sink, Source, read_text};
 

@@ -1,15 +1,15 @@
 ghost use Rattle.std.specs.Prelude.{◌≡◌, ◌≤◌, ℕ, [], Some, length};
 ghost use Rattle.xt_io.specs.Bundles.{nothing};
-ghost use Rattle.tool_output.specs.Outputs.{Output, after_pieces, finished};
-ghost use Rattle.tool_output.specs.Runs.{Comes, Steps, StopsWriting};
-ghost use Rattle.tool_front.specs.Reading.{AreWithin};
+ghost use Rattle.tool_runs.specs.output.Outputs.{Output, after_pieces, finished};
+ghost use Rattle.tool_runs.specs.output.Runs.{Comes, Steps, StopsWriting};
+ghost use Rattle.tool_runs.specs.front.Reading.{AreWithin};
 ghost use Rattle.tool_words.specs.View.{reference_view};
 ghost use Rattle.tool_commands.specs.Commands.{write_records};
 
 use std::alloc::Global;
-use tool_output::{Stop, Style, Turns};
 use tool_runs::Prepares;
-use tool_values::Values;
+use tool_runs::output::{Stop, Style, Turns};
+use tool_samples::values::Values;
 use tool_verdicts::top_type;
 use tool_words::Reference;
 use xt_io::{Item, Sink};
@@ -25,8 +25,8 @@ pub struct Writing<'a> {
 impl<'a> Prepares for Writing<'a> {
     ghost use Rattle.type_trees.specs.View.{tree};
     ghost use Rattle.xt_io.specs.declared.Kind.TheVariants.{Json};
-    ghost use Rattle.tool_output.specs.declared.ending.Style.TheVariants as styles;
-    ghost use Rattle.tool_lines.specs.Lines.{write_turn};
+    ghost use Rattle.tool_runs.specs.declared.output.ending.Style.TheVariants as styles;
+    ghost use Rattle.tool_samples.specs.lines.Lines.{write_turn};
 
     type Run = Values;
 

@@ -13,10 +13,10 @@ use Rattle.type_trees.specs.Bridge.{shape}
 use Rattle.xcdr_model.specs.declared.malformed.Fault.{Fault}
 use Rattle.xcdr_model.specs.KeyOctets.{key_octets}
 use Rattle.xcdr_model.specs.Samples.{Outcome, sample, discarded, must_understand, read_sample}
-use Rattle.kept_model.specs.Kept.{Puts, Instances, last, kept, keys_of, values_of, put, all_put, has_key, is_full}
-use Rattle.kept_model.specs.Laws.{KeepsLast as KeptLast}
-use Rattle.tool_output.specs.declared.ending.Style.TheVariants.{Lines}
-use Rattle.tool_output.specs.Outputs.{Output, Turn, goes_on, over, after_turn, after_pieces, passed, refused, run_over, same_kind, taking, misplaced}
+use Rattle.key_instances.specs.kept.Kept.{Puts, Instances, last, kept, keys_of, values_of, put, all_put, has_key, is_full}
+use Rattle.key_instances.specs.kept.Laws.{KeepsLast as KeptLast}
+use Rattle.tool_runs.specs.declared.output.ending.Style.TheVariants.{Lines}
+use Rattle.tool_runs.specs.output.Outputs.{Output, Turn, goes_on, over, after_turn, after_pieces, passed, refused, run_over, same_kind, taking, misplaced}
 use Rattle.tool_instances.specs.Instancing.{most_keys, full, put_turn, outcome_turn, instances_turn, instances_end}
 use Rattle.tool_instances.specs.Laws.{has_place, before_puts, puts_of, kept_output, KeepsLast}
 

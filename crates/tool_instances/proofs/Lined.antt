@@ -7,11 +7,11 @@ use Rattle.std.specs.List.{concat}
 use Rattle.std.proofs.lemmas.List.{drop_all, length-map}
 use Rattle.xt_shapes.specs.Vals.{Val}
 use Rattle.type_trees.specs.Trees.{Tree}
-use Rattle.kept_model.specs.Kept.{Instances}
+use Rattle.key_instances.specs.kept.Kept.{Instances}
 use Rattle.key_instances.specs.Caches.{key_of, count_of, value_of}
-use Rattle.tool_output.specs.declared.ending.Ending.TheVariants.{Done}
-use Rattle.tool_output.specs.Outputs.{Output, after_pieces, finished}
-use Rattle.tool_output.specs.Runs.{Leads}
+use Rattle.tool_runs.specs.declared.output.ending.Ending.TheVariants.{Done}
+use Rattle.tool_runs.specs.output.Outputs.{Output, after_pieces, finished}
+use Rattle.tool_runs.specs.output.Runs.{Leads}
 use Rattle.tool_instances.specs.Instancing.{instances_end, instance_line, value_line, value_lines, instance_lines, head_at, values_at, lines_at, all_lines}
 
 -- ---- the instance at a place

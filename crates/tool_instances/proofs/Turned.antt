@@ -16,26 +16,26 @@ use Rattle.type_trees.specs.Trees.{Tree}
 use Rattle.type_trees.specs.Bridge.{shape}
 use Rattle.shape_laws.specs.KeyLaws.{KeyOctetsBound}
 use Rattle.shape_laws.specs.Readings.{SampleTyped}
-use Rattle.wire_cursor.specs.declared.faults.DecodeFault.{DecodeFault}
-use Rattle.wire_cursor.specs.declared.faults.DecodeFault.TheVariants.{Malformed}
-use Rattle.wire_cursor.specs.Standing.{Standing}
-use Rattle.wire_cursor.specs.Decoding.{spot, Answers, Decodes}
-use Rattle.wire_cursor.specs.Slices.{at_start}
-use Rattle.sample_frames.specs.Frames.{over_region}
+use Rattle.xt_wire.specs.declared.cursor.faults.DecodeFault.{DecodeFault}
+use Rattle.xt_wire.specs.declared.cursor.faults.DecodeFault.TheVariants.{Malformed}
+use Rattle.xt_wire.specs.cursor.Standing.{Standing}
+use Rattle.xt_wire.specs.cursor.Decoding.{spot, Answers, Decodes}
+use Rattle.xt_wire.specs.cursor.Slices.{at_start}
+use Rattle.xcdr_samples.specs.frames.Frames.{over_region}
 use Rattle.xcdr_model.specs.declared.malformed.Fault.{Fault}
 use Rattle.xcdr_model.specs.declared.malformed.Why.{Why}
 use Rattle.xcdr_model.specs.Reading.{Spot}
 use Rattle.xcdr_model.specs.Samples.{Outcome, sample, discarded, must_understand, read_sample}
 use Rattle.xcdr_samples.specs.Samples.{sample_outcome}
-use Rattle.kept_model.specs.Kept.{Instances, put, is_full}
-use Rattle.tool_output.specs.declared.ending.Style.{Style}
-use Rattle.tool_output.specs.declared.halt.Halt.{Halt}
-use Rattle.tool_output.specs.declared.halt.Halt.TheVariants as halts
-use Rattle.tool_output.specs.declared.stop.Stop.{Stop}
-use Rattle.tool_output.specs.declared.stop.Stop.TheVariants as stops
-use Rattle.tool_output.specs.Outputs.{Output, Refusal, Turn, goes_on, over, after_pieces, after_turn, refused}
-use Rattle.tool_output.specs.Runs.{Leads, Refuses, Steps, TakesRecord}
-use Rattle.tool_output.proofs.Written.{stops_here}
+use Rattle.key_instances.specs.kept.Kept.{Instances, put, is_full}
+use Rattle.tool_runs.specs.declared.output.ending.Style.{Style}
+use Rattle.tool_runs.specs.declared.output.halt.Halt.{Halt}
+use Rattle.tool_runs.specs.declared.output.halt.Halt.TheVariants as halts
+use Rattle.tool_runs.specs.declared.output.stop.Stop.{Stop}
+use Rattle.tool_runs.specs.declared.output.stop.Stop.TheVariants as stops
+use Rattle.tool_runs.specs.output.Outputs.{Output, Refusal, Turn, goes_on, over, after_pieces, after_turn, refused}
+use Rattle.tool_runs.specs.output.Runs.{Leads, Refuses, Steps, TakesRecord}
+use Rattle.tool_runs.proofs.OfOutput.Written.{stops_here}
 use Rattle.tool_instances.specs.Instancing.{most_keys, full, put_turn, outcome_turn, payload_turn}
 use Rattle.tool_instances.specs.Keeping.{HasKey, Keeps}
 

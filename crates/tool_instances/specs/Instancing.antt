@@ -13,12 +13,12 @@ use Rattle.type_trees.specs.Bridge.{shape}
 use Rattle.xcdr_model.specs.declared.malformed.Fault.{Fault}
 use Rattle.xcdr_model.specs.KeyOctets.{key_octets, short, hash_of}
 use Rattle.xcdr_model.specs.Samples.{Outcome, sample, discarded, must_understand, read_sample}
-use Rattle.kept_model.specs.Kept.{Instances, put, is_full}
-use Rattle.tool_output.specs.declared.ending.Ending.TheVariants.{Done}
-use Rattle.tool_output.specs.declared.ending.Cause.TheVariants.{Limit}
-use Rattle.tool_output.specs.declared.ending.Style.TheVariants.{Lines}
-use Rattle.tool_output.specs.Outputs.{Output, Refusal, Turn, goes_on, over, run, taking}
-use Rattle.tool_lines.specs.Lines.{value_text}
+use Rattle.key_instances.specs.kept.Kept.{Instances, put, is_full}
+use Rattle.tool_runs.specs.declared.output.ending.Ending.TheVariants.{Done}
+use Rattle.tool_runs.specs.declared.output.ending.Cause.TheVariants.{Limit}
+use Rattle.tool_runs.specs.declared.output.ending.Style.TheVariants.{Lines}
+use Rattle.tool_runs.specs.output.Outputs.{Output, Refusal, Turn, goes_on, over, run, taking}
+use Rattle.tool_samples.specs.lines.Lines.{value_text}
 
 -- ---- a record
 

@@ -4,12 +4,12 @@ use Rattle.xt_shapes.specs.Shape.{Shape}
 use Rattle.xt_shapes.specs.Typing.{has_type}
 use Rattle.xcdr_model.specs.KeyOctets.{key_octets}
 use Rattle.xcdr_model.specs.Samples.{Outcome, sample, discarded, must_understand}
-use Rattle.kept_model.specs.Kept.{Instances}
-use Rattle.tool_output.specs.declared.halt.Halt.TheVariants as halts
-use Rattle.tool_output.specs.declared.stop.Stop.{Stop}
-use Rattle.tool_output.specs.declared.stop.Stop.TheVariants as stops
-use Rattle.tool_output.specs.Outputs.{Turn, goes_on, over}
-use Rattle.tool_output.specs.Runs.{refusal}
+use Rattle.key_instances.specs.kept.Kept.{Instances}
+use Rattle.tool_runs.specs.declared.output.halt.Halt.TheVariants as halts
+use Rattle.tool_runs.specs.declared.output.stop.Stop.{Stop}
+use Rattle.tool_runs.specs.declared.output.stop.Stop.TheVariants as stops
+use Rattle.tool_runs.specs.output.Outputs.{Turn, goes_on, over}
+use Rattle.tool_runs.specs.output.Runs.{refusal}
 
 -- A value has the type, and its key is not too long.
 abbrev pub HasKey : Shape → Outcome → Type 0

@@ -9,9 +9,9 @@ use Rattle.type_trees.specs.Bridge.{shape}
 use Rattle.xcdr_model.specs.declared.malformed.Fault.{Fault}
 use Rattle.xcdr_model.specs.KeyOctets.{key_octets}
 use Rattle.xcdr_model.specs.Samples.{Outcome, sample, discarded, must_understand, read_sample}
-use Rattle.kept_model.specs.Kept.{Puts, kept, keys_of}
-use Rattle.tool_output.specs.declared.ending.Style.TheVariants.{Lines}
-use Rattle.tool_output.specs.Outputs.{Output, refused, same_kind}
+use Rattle.key_instances.specs.kept.Kept.{Puts, kept, keys_of}
+use Rattle.tool_runs.specs.declared.output.ending.Style.TheVariants.{Lines}
+use Rattle.tool_runs.specs.output.Outputs.{Output, refused, same_kind}
 use Rattle.tool_instances.specs.Instancing.{most_keys, full, instances_end, instances_body}
 
 abbrev pub has_place : Item → Bool

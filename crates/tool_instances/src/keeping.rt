@@ -3,15 +3,15 @@ ghost use Rattle.type_trees.specs.View.{tree};
 ghost use Rattle.projection_laws.specs.Premises.{IsValid};
 ghost use Rattle.key_instances.specs.Caches.{instances};
 ghost use Rattle.xt_io.specs.Bundles.{nothing};
-ghost use Rattle.tool_output.specs.Outputs.{finished};
-ghost use Rattle.tool_output.specs.Runs.{Steps, StopsWriting};
+ghost use Rattle.tool_runs.specs.output.Outputs.{finished};
+ghost use Rattle.tool_runs.specs.output.Runs.{Steps, StopsWriting};
 ghost use Rattle.tool_instances.specs.Instancing.{instances_body};
 
 use crate::lines::say_instances;
 use crate::putting::put_sample;
 use key_instances::Instances;
 use std::alloc::Global;
-use tool_output::{Stop, Style, Turns, payload_of};
+use tool_runs::output::{Stop, Style, Turns, payload_of};
 use type_trees::XType;
 use xt_io::{BundleReader, Head, Kind, Sink, Source};
 use xt_lists::OutOfMemory;
@@ -57,9 +57,9 @@ impl Turns for LastSamples {
     ghost use Rattle.type_trees.specs.View.{tree};
     ghost use Rattle.key_instances.specs.Caches.{instances};
     ghost use Rattle.xt_io.specs.declared.Kind.TheVariants.{Sample};
-    ghost use Rattle.tool_output.specs.declared.ending.Style.TheVariants.{Lines};
-    ghost use Rattle.tool_output.specs.Outputs.{taking, same_kind};
-    ghost use Rattle.tool_output.proofs.Turning.{run_at_fault, run_at_other};
+    ghost use Rattle.tool_runs.specs.declared.output.ending.Style.TheVariants.{Lines};
+    ghost use Rattle.tool_runs.specs.output.Outputs.{taking, same_kind};
+    ghost use Rattle.tool_runs.proofs.OfOutput.Turning.{run_at_fault, run_at_other};
     ghost use Rattle.tool_instances.specs.Instancing.{instances_turn, instances_end, instances_body};
 
     ghost style = { Lines };

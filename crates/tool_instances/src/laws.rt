@@ -4,5 +4,5 @@ ghost use Rattle.tool_instances.specs.Laws.{KeepsLast};
 pub fn keeps_last()
     ensures { KeepsLast }
 {
-    kept_model::keeps_last();
+    key_instances::kept::keeps_last();
 }

@@ -7,22 +7,22 @@ ghost use Rattle.projection_laws.specs.Premises.{IsValid};
 ghost use Rattle.xcdr_model.specs.KeyOctets as spec;
 ghost use Rattle.xcdr_model.specs.Samples.{sample};
 ghost use Rattle.key_instances.specs.Caches.{instances};
-ghost use Rattle.tool_output.specs.Runs.{Refuses};
+ghost use Rattle.tool_runs.specs.output.Runs.{Refuses};
 ghost use Rattle.tool_instances.specs.Instancing.{full, outcome_turn, payload_turn};
 ghost use Rattle.tool_instances.specs.Keeping.{HasKey, Keeps};
 
+use key_instances::octets::key_octets;
 use key_instances::{Instances, PutFault};
-use key_octets::key_octets;
 use settled_parts::Outcome;
 use shape_laws::{key_octets_bound, sample_typed};
 use std::alloc::Global;
-use tool_output::{Cause, Halt, Refused, Stop};
+use tool_runs::output::{Cause, Halt, Refused, Stop};
 use type_rules::{is_within_limits, shape_keeps_rules};
 use type_trees::{Value, XType};
-use wire_cursor::{DecodeFault, SliceCursor};
 use xcdr_samples::read_sample;
 use xt_lists::Text;
 use xt_shapes::Rep;
+use xt_wire::cursor::{DecodeFault, SliceCursor};
 
 fn refuse_key(alloc: Global) -> Stop
     ensures { Refuses full result }

@@ -6,13 +6,13 @@ use Rattle.xt_io.specs.declared.Item.{Item}
 use Rattle.xt_io.specs.Bundles.{Bundle}
 use Rattle.xt_io.specs.Readers.{Reading}
 use Rattle.type_object.specs.Pools.{Texts}
-use Rattle.tool_output.specs.declared.stop.Stop.{Stop}
-use Rattle.tool_output.specs.declared.stop.Stop.TheVariants as stops
-use Rattle.tool_output.specs.Outputs.{Refusal, ◌>>=◌}
-use Rattle.tool_output.specs.Runs.{Comes, ComesTold, coming}
-use Rattle.tool_front.specs.declared.front.Front.{Front as Read}
-use Rattle.tool_front.specs.Fronts.{Front, closed}
-use Rattle.tool_front.specs.Reading.{FrontIs, GivesFront}
+use Rattle.tool_runs.specs.declared.output.stop.Stop.{Stop}
+use Rattle.tool_runs.specs.declared.output.stop.Stop.TheVariants as stops
+use Rattle.tool_runs.specs.output.Outputs.{Refusal, ◌>>=◌}
+use Rattle.tool_runs.specs.output.Runs.{Comes, ComesTold, coming}
+use Rattle.tool_runs.specs.declared.front.front.Front.{Front as Read}
+use Rattle.tool_runs.specs.front.Fronts.{Front, closed}
+use Rattle.tool_runs.specs.front.Reading.{FrontIs, GivesFront}
 use Rattle.tool_types.specs.Types.{Declared, declare}
 use Rattle.tool_nets.specs.Opened.{objects_behind, opened}
 

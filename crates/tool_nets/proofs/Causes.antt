@@ -12,11 +12,11 @@ use Rattle.idl_input.specs.declared.faults.IdlFault.{IdlFault}
 use Rattle.xt_idl.specs.Whole.{idl}
 use Rattle.type_resolve.specs.Adding.{all_added}
 use Rattle.type_resolve.specs.Objects.{texts}
-use Rattle.tool_output.specs.declared.ending.Cause.TheVariants as causes
-use Rattle.tool_output.specs.declared.stop.Stop.{Stop}
-use Rattle.tool_output.specs.declared.stop.Stop.TheVariants as stops
-use Rattle.tool_output.specs.Outputs.{Refusal, ◌>>=◌}
-use Rattle.tool_output.specs.Runs.{StopsBundle, refusal}
+use Rattle.tool_runs.specs.declared.output.ending.Cause.TheVariants as causes
+use Rattle.tool_runs.specs.declared.output.stop.Stop.{Stop}
+use Rattle.tool_runs.specs.declared.output.stop.Stop.TheVariants as stops
+use Rattle.tool_runs.specs.output.Outputs.{Refusal, ◌>>=◌}
+use Rattle.tool_runs.specs.output.Runs.{StopsBundle, refusal}
 use Rattle.tool_types.specs.Types.{Declaration, Declared, declare, declared_as, declared_by, object_added, pool_refusal, text_parsed, types, with_all, with_objects}
 use Rattle.tool_nets.specs.Opened.{StopsFront}
 use Rattle.tool_nets.proofs.Behind.{Stops}

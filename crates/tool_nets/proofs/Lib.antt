@@ -1,2 +1,4 @@
+pub mod OfClients
+pub mod OfServing
 pub mod Behind
 pub mod Causes

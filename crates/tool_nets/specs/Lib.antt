@@ -1,2 +1,4 @@
+pub mod clients
+pub mod serving
 pub mod Nets
 pub mod Opened

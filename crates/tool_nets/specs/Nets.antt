@@ -2,12 +2,12 @@
 use Rattle.std.specs.Prelude.{◌≡◌, ℕ, List, ◌⊎◌, Option, Result, Ok, Err, codes}
 use Rattle.xt_io.specs.Outside.{Rose}
 use Rattle.xt_io.specs.Links.{Held, Heard}
-use Rattle.tool_output.specs.declared.ending.Ending.{Ending}
-use Rattle.tool_output.specs.declared.ending.Cause.TheVariants.{NetFault}
-use Rattle.tool_output.specs.declared.ending.Style.{Style}
-use Rattle.tool_output.specs.declared.halt.Halt.{Halt}
-use Rattle.tool_output.specs.Outputs.{Output, Refusal, refused}
-use Rattle.tool_output.specs.Runs.{Ends}
+use Rattle.tool_runs.specs.declared.output.ending.Ending.{Ending}
+use Rattle.tool_runs.specs.declared.output.ending.Cause.TheVariants.{NetFault}
+use Rattle.tool_runs.specs.declared.output.ending.Style.{Style}
+use Rattle.tool_runs.specs.declared.output.halt.Halt.{Halt}
+use Rattle.tool_runs.specs.output.Outputs.{Output, Refusal, refused}
+use Rattle.tool_runs.specs.output.Runs.{Ends}
 
 -- The net around a command: its count of faults before and after it, and what it tells afterwards.
 pub record Net : Type 0 where

@@ -4,13 +4,13 @@ use Rattle.std.specs.Option.{option_map}
 use Rattle.xt_io.specs.Bundles.{Bundle, bundle}
 use Rattle.xt_io.specs.Links.{IsToldAs}
 use Rattle.type_object.specs.Pools.{Texts}
-use Rattle.tool_output.specs.declared.ending.Cause.{Cause}
-use Rattle.tool_output.specs.declared.ending.Cause.TheVariants as causes
-use Rattle.tool_output.specs.declared.ending.Style.TheVariants.{Lines}
-use Rattle.tool_output.specs.declared.stop.Stop.{Stop}
-use Rattle.tool_output.specs.declared.stop.Stop.TheVariants as stops
-use Rattle.tool_output.specs.Outputs.{Output, Refusal, ◌>>=◌, refused}
-use Rattle.tool_front.specs.Fronts.{Front, front_of, closed}
+use Rattle.tool_runs.specs.declared.output.ending.Cause.{Cause}
+use Rattle.tool_runs.specs.declared.output.ending.Cause.TheVariants as causes
+use Rattle.tool_runs.specs.declared.output.ending.Style.TheVariants.{Lines}
+use Rattle.tool_runs.specs.declared.output.stop.Stop.{Stop}
+use Rattle.tool_runs.specs.declared.output.stop.Stop.TheVariants as stops
+use Rattle.tool_runs.specs.output.Outputs.{Output, Refusal, ◌>>=◌, refused}
+use Rattle.tool_runs.specs.front.Fronts.{Front, front_of, closed}
 use Rattle.tool_types.specs.Types.{declare}
 
 -- the objects of a front, each once, in order, where nothing but Notes comes behind it

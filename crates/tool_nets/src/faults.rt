@@ -1,11 +1,11 @@
 //! The last line where the net failed.
 ghost use Rattle.std.specs.Prelude.{◌≡◌, Ok};
-ghost use Rattle.tool_output.specs.Outputs.{refused};
-ghost use Rattle.tool_output.specs.Runs.{Ends, HaltsWriting};
+ghost use Rattle.tool_runs.specs.output.Outputs.{refused};
+ghost use Rattle.tool_runs.specs.output.Runs.{Ends, HaltsWriting};
 ghost use Rattle.tool_nets.specs.Nets.{net_fault};
 
 use std::alloc::Global;
-use tool_output::{Cause, Ending, Halt, Refused, Style, last};
+use tool_runs::output::{Cause, Ending, Halt, Refused, Style, last};
 use xt_io::Sink;
 use xt_lists::Text;
 

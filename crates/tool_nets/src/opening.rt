@@ -3,13 +3,13 @@ ghost use Rattle.std.specs.Prelude.{◌≡◌, ◌≤◌, None, IfErr, OnOk};
 ghost use Rattle.std.specs.Option.{option_map};
 ghost use Rattle.std.specs.Io.KnownBytes.{IsAtEnd};
 ghost use Rattle.xt_io.specs.Bundles.{bundle};
-ghost use Rattle.tool_output.specs.Runs.{ComesTold, StopsReading};
+ghost use Rattle.tool_runs.specs.output.Runs.{ComesTold, StopsReading};
 ghost use Rattle.tool_nets.specs.Opened.{StopsFront, opened};
 
 use std::alloc::Global;
-use tool_front::read_front;
-use tool_output::Stop;
 use tool_runs::close_body;
+use tool_runs::front::read_front;
+use tool_runs::output::Stop;
 use tool_types::declare;
 use type_object::Pool;
 use xt_io::{BundleReader, Source};

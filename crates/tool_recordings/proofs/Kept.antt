@@ -5,8 +5,8 @@ use Rattle.xt_io.specs.declared.Head.{Head}
 use Rattle.xt_io.specs.declared.Kind.{Kind}
 use Rattle.xt_io.specs.declared.Kind.TheVariants.{Object, Sample, Idl, Json, Note}
 use Rattle.xt_io.specs.Bundles.{Bundle, limit_of}
-use Rattle.tool_output.specs.Outputs.{same_kind}
-use Rattle.tool_output.specs.Runs.{TakesRecord}
+use Rattle.tool_runs.specs.output.Outputs.{same_kind}
+use Rattle.tool_runs.specs.output.Runs.{TakesRecord}
 
 -- what is made of a payload that was read
 pub takes_piece : (head : Head) (piece : List ℕ → List ℕ) (payload : List ℕ) (before after : Option Bundle) → TakesRecord head (λ octets. octets ≡ payload) before after → TakesRecord head (λ octets. piece payload ≡ piece octets) before after

@@ -15,15 +15,15 @@ use Rattle.xt_recorder.specs.declared.replayed.ReplayFault.TheVariants as faults
 use Rattle.xt_recorder.specs.Answers as answers
 use Rattle.xt_recorder.specs.Replays as replays
 use Rattle.xt_recorder.specs.Replays.{State, Step, Answer, misplaced, not_added, unresolved, no_top}
-use Rattle.tool_output.specs.declared.ending.Style.TheVariants.{Lines}
-use Rattle.tool_output.specs.declared.halt.Halt.TheVariants as halts
-use Rattle.tool_output.specs.declared.stop.Stop.{Stop}
-use Rattle.tool_output.specs.declared.stop.Stop.TheVariants as stops
-use Rattle.tool_output.specs.Outputs.{Output, after_pieces, after_turn, run_over}
-use Rattle.tool_output.specs.Runs.{Steps, TakesRecord, Refuses}
-use Rattle.tool_output.proofs.Turning.{refuses_here}
-use Rattle.tool_output.proofs.Written.{stops_here}
-use Rattle.tool_names.specs.Names as names
+use Rattle.tool_runs.specs.declared.output.ending.Style.TheVariants.{Lines}
+use Rattle.tool_runs.specs.declared.output.halt.Halt.TheVariants as halts
+use Rattle.tool_runs.specs.declared.output.stop.Stop.{Stop}
+use Rattle.tool_runs.specs.declared.output.stop.Stop.TheVariants as stops
+use Rattle.tool_runs.specs.output.Outputs.{Output, after_pieces, after_turn, run_over}
+use Rattle.tool_runs.specs.output.Runs.{Steps, TakesRecord, Refuses}
+use Rattle.tool_runs.proofs.OfOutput.Turning.{refuses_here}
+use Rattle.tool_runs.proofs.OfOutput.Written.{stops_here}
+use Rattle.tool_types.specs.names.Names as names
 use Rattle.tool_recordings.specs.Replaying.{answer_lines, replay_refusal, stepped, replay_turn, replayed}
 use Rattle.tool_recordings.specs.Stopping.{ReplayStops}
 

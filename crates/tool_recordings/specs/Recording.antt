@@ -9,8 +9,8 @@ use Rattle.type_trees.specs.declared.types.HashId.{HashId}
 use Rattle.type_object.specs.Pools.{Texts, found}
 use Rattle.xt_recorder.specs.Recordings.{object_record, closed}
 use Rattle.xt_recorder.specs.Streams.{stream_text}
-use Rattle.tool_output.specs.declared.ending.Style.TheVariants.{Records}
-use Rattle.tool_output.specs.Outputs.{Output, Turn, goes_on, run, taking, finished}
+use Rattle.tool_runs.specs.declared.output.ending.Style.TheVariants.{Records}
+use Rattle.tool_runs.specs.output.Outputs.{Output, Turn, goes_on, run, taking, finished}
 
 -- the objects of the type and of all that it refers to, and the Note of the stream
 abbrev pub opening_pieces : Texts → HashId → Rep → List (List ℕ)

@@ -10,12 +10,12 @@ use Rattle.xcdr_model.specs.Failure.{First}
 use Rattle.xt_recorder.specs.Streams.{stream_text}
 use Rattle.xt_recorder.specs.Replays as replays
 use Rattle.xt_recorder.specs.Replays.{State, Answer, nothing, begins, reads, malformed, misplaced, not_added, unresolved, no_top, taken}
-use Rattle.tool_output.specs.declared.ending.Style.TheVariants.{Lines}
-use Rattle.tool_output.specs.Outputs as outputs
-use Rattle.tool_output.specs.Outputs.{Output, Turn, goes_on, over, after_turn, run, finished}
-use Rattle.tool_lines.specs.Lines.{no_text, outcome_line}
+use Rattle.tool_runs.specs.declared.output.ending.Style.TheVariants.{Lines}
+use Rattle.tool_runs.specs.output.Outputs as outputs
+use Rattle.tool_runs.specs.output.Outputs.{Output, Turn, goes_on, over, after_turn, run, finished}
+use Rattle.tool_samples.specs.lines.Lines.{no_text, outcome_line}
 use Rattle.tool_types.specs.Types.{types_refusal, pool_refusal}
-use Rattle.tool_names.specs.Names.{walk_refusal}
+use Rattle.tool_types.specs.names.Names.{walk_refusal}
 
 -- ---- lines
 

@@ -3,14 +3,14 @@ use Rattle.std.specs.Prelude.{◌≡◌, ℕ}
 use Rattle.xt_io.specs.declared.Item.{Item}
 use Rattle.xt_recorder.specs.declared.replayed.ReplayFault.{ReplayFault}
 use Rattle.xt_recorder.specs.declared.replayed.ReplayFault.TheVariants as faults
-use Rattle.tool_output.specs.declared.halt.Halt.TheVariants as halts
-use Rattle.tool_output.specs.declared.stop.Stop.{Stop}
-use Rattle.tool_output.specs.declared.stop.Stop.TheVariants as stops
-use Rattle.tool_output.specs.Outputs.{misplaced}
-use Rattle.tool_output.specs.Runs.{Refuses}
+use Rattle.tool_runs.specs.declared.output.halt.Halt.TheVariants as halts
+use Rattle.tool_runs.specs.declared.output.stop.Stop.{Stop}
+use Rattle.tool_runs.specs.declared.output.stop.Stop.TheVariants as stops
+use Rattle.tool_runs.specs.output.Outputs.{misplaced}
+use Rattle.tool_runs.specs.output.Runs.{Refuses}
 use Rattle.tool_types.specs.Types.{types_refusal}
 use Rattle.tool_types.specs.Declaring.{IsRefusal}
-use Rattle.tool_names.specs.Meanings.{WalkStops}
+use Rattle.tool_types.specs.names.Meanings.{WalkStops}
 use Rattle.tool_recordings.specs.Replaying.{top_text}
 
 -- what the fault of record k says

@@ -1,13 +1,13 @@
 ghost use Rattle.std.specs.Prelude.{◌≡◌, ◌≤◌, Some, OnOk, OnErr, length};
 ghost use Rattle.xt_io.specs.Outside.{AppendsAll, AppendsPrefix};
 ghost use Rattle.xt_io.specs.Records.{record_octets};
-ghost use Rattle.tool_output.specs.Outputs.{Output, after_pieces};
-ghost use Rattle.tool_output.specs.Runs.{HaltsWriting, Steps, StopsWriting};
-ghost use Rattle.tool_names.specs.Identified.{Resolves};
+ghost use Rattle.tool_runs.specs.output.Outputs.{Output, after_pieces};
+ghost use Rattle.tool_runs.specs.output.Runs.{HaltsWriting, Steps, StopsWriting};
+ghost use Rattle.tool_types.specs.names.Identified.{Resolves};
 ghost use Rattle.tool_recordings.specs.Recording as spec;
 
 use std::alloc::Global;
-use tool_output::{Halt, Stop, Style, Turns, payload_of};
+use tool_runs::output::{Halt, Stop, Style, Turns, payload_of};
 use type_object::Pool;
 use type_trees::HashId;
 use xt_io::{BundleReader, Head, Kind, Sink, Source, write_record};
@@ -60,9 +60,9 @@ fn write_sample<K: Sink>(payload: &[u8], sink: &mut K) -> Result<(), Halt>
 
 impl Turns for Recorded {
     ghost use Rattle.xt_io.specs.declared.Kind.TheVariants.{Sample};
-    ghost use Rattle.tool_output.specs.declared.ending.Style.TheVariants.{Records};
-    ghost use Rattle.tool_output.specs.Outputs.{taking, finished, same_kind};
-    ghost use Rattle.tool_output.proofs.Turning.{run_at_fault, run_at_other};
+    ghost use Rattle.tool_runs.specs.declared.output.ending.Style.TheVariants.{Records};
+    ghost use Rattle.tool_runs.specs.output.Outputs.{taking, finished, same_kind};
+    ghost use Rattle.tool_runs.proofs.OfOutput.Turning.{run_at_fault, run_at_other};
     ghost use Rattle.tool_recordings.specs.Recording.{record_turn, samples_recorded};
 
     ghost style = { Records };

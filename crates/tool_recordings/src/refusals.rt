@@ -1,13 +1,13 @@
 ghost use Rattle.std.specs.Prelude.{◌≡◌, ◌++◌, IfOk, codes};
 ghost use Rattle.type_trees.specs.Ids.{id_text};
-ghost use Rattle.tool_output.specs.Runs.{Refuses};
+ghost use Rattle.tool_runs.specs.output.Runs.{Refuses};
 ghost use Rattle.tool_types.specs.Types.{types_refusal};
 ghost use Rattle.tool_recordings.specs.Replaying as spec;
 ghost use Rattle.tool_recordings.specs.Stopping.{ReplayStops};
 
 use std::alloc::Global;
-use tool_names::{refuse_top, refuse_walk};
-use tool_output::{Halt, Stop, refuse_bundle};
+use tool_runs::output::{Halt, Stop, refuse_bundle};
+use tool_types::names::{refuse_top, refuse_walk};
 use tool_types::refuse_pool;
 use type_trees::HashId;
 use xt_io::Item;

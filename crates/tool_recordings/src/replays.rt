@@ -4,15 +4,15 @@ ghost use Rattle.type_trees.specs.View.{tree};
 ghost use Rattle.type_trees.specs.Bridge.{type_shape};
 ghost use Rattle.xt_recorder.specs.Replaying.{reader_of, state_of};
 ghost use Rattle.xt_recorder.specs.Replays.{State};
-ghost use Rattle.tool_output.specs.Outputs.{Output};
-ghost use Rattle.tool_output.specs.Runs.{Steps, StopsWriting};
-ghost use Rattle.sample_types.specs.Tops.{is_top};
+ghost use Rattle.tool_runs.specs.output.Outputs.{Output};
+ghost use Rattle.tool_runs.specs.output.Runs.{Steps, StopsWriting};
+ghost use Rattle.type_trees.specs.samples.Tops.{is_top};
 ghost use Rattle.tool_recordings.specs.Replaying.{replay_turn, replayed_by};
 
 use crate::lines::say_replayed;
 use crate::refusals::refuse_replay;
 use std::alloc::Global;
-use tool_output::{Stop, Style, Turns, payload_of};
+use tool_runs::output::{Stop, Style, Turns, payload_of};
 use type_object::Pool;
 use type_trees::XType;
 use xt_io::{BundleReader, Head, Item, Kind, Sink, Source};
@@ -58,12 +58,12 @@ impl Replays {
 }
 
 impl Turns for Replays {
-    ghost use Rattle.tool_output.specs.declared.ending.Style.TheVariants.{Lines};
+    ghost use Rattle.tool_runs.specs.declared.output.ending.Style.TheVariants.{Lines};
     ghost use Rattle.std.specs.Prelude.{Bool, ◌+◌, if◌then◌else◌};
     ghost use Rattle.std.proofs.Common.{ap};
     ghost use Rattle.xt_io.specs.Bundles.{before_bundle};
-    ghost use Rattle.tool_output.specs.Outputs.{finished, other_output};
-    ghost use Rattle.tool_output.proofs.Turning.{run_at_fault};
+    ghost use Rattle.tool_runs.specs.output.Outputs.{finished, other_output};
+    ghost use Rattle.tool_runs.proofs.OfOutput.Turning.{run_at_fault};
     ghost use Rattle.tool_recordings.specs.Replaying.{replayed};
 
     ghost style = { Lines };

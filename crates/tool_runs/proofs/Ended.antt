@@ -9,13 +9,13 @@ use Rattle.xt_io.specs.declared.RecordFault.{RecordFault}
 use Rattle.xt_io.specs.declared.RecordFault.TheVariants as record_fault
 use Rattle.xt_io.specs.Bundles.{Bundle, nothing, only_fault, before_bundle, item_of}
 use Rattle.xt_io.specs.Outside.{KeepsTold}
-use Rattle.tool_output.specs.declared.halt.Halt.{Halt}
-use Rattle.tool_output.specs.declared.stop.Refused.{Refused}
-use Rattle.tool_output.specs.declared.stop.Stop.{Stop}
-use Rattle.tool_output.specs.declared.stop.Stop.TheVariants as stops
-use Rattle.tool_output.specs.Outputs.{Refusal, broken, misplaced, same_kind}
-use Rattle.tool_output.specs.Runs.{ComesTold, Cuts, PassesOther, Refuses, TakesRecord, refusal}
-use Rattle.tool_front.specs.Fronts.{closed, closed_from}
+use Rattle.tool_runs.specs.declared.output.halt.Halt.{Halt}
+use Rattle.tool_runs.specs.declared.output.stop.Refused.{Refused}
+use Rattle.tool_runs.specs.declared.output.stop.Stop.{Stop}
+use Rattle.tool_runs.specs.declared.output.stop.Stop.TheVariants as stops
+use Rattle.tool_runs.specs.output.Outputs.{Refusal, broken, misplaced, same_kind}
+use Rattle.tool_runs.specs.output.Runs.{ComesTold, Cuts, PassesOther, Refuses, TakesRecord, refusal}
+use Rattle.tool_runs.specs.front.Fronts.{closed, closed_from}
 
 -- what is still to come closes as the whole does
 abbrev pub EndAlike : Option Bundle → Option Bundle → Type 0

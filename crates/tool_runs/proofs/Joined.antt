@@ -9,19 +9,19 @@ use Rattle.xt_io.specs.declared.Item.{Item}
 use Rattle.xt_io.specs.Bundles.{Bundle}
 use Rattle.xt_io.specs.Outside.{AppendsPrefix}
 use Rattle.xt_io.specs.Readers.{Reading}
-use Rattle.tool_output.specs.declared.ending.Ending.{Ending}
-use Rattle.tool_output.specs.declared.ending.Ending.TheVariants.{Done}
-use Rattle.tool_output.specs.declared.ending.Style.{Style}
-use Rattle.tool_output.specs.declared.halt.Halt.{Halt}
-use Rattle.tool_output.specs.declared.halt.Halt.TheVariants as halts
-use Rattle.tool_output.specs.declared.stop.Stop.{Stop}
-use Rattle.tool_output.specs.declared.stop.Stop.TheVariants as stops
-use Rattle.tool_output.specs.Outputs.{after_pieces, text_of, Output, Refusal, ◌>>=◌, unless_refused, finished}
-use Rattle.tool_output.specs.Runs.{Writes, Leads, Steps, Comes, ComesTold, at_number, coming, told_refusal}
-use Rattle.tool_output.proofs.Written.{concat-append, writes_on, stops_here}
-use Rattle.tool_front.specs.declared.front.Front.{Front as Read}
-use Rattle.tool_front.specs.Fronts.{Front, closed}
-use Rattle.tool_front.specs.Reading.{FrontIs, GivesFront}
+use Rattle.tool_runs.specs.declared.output.ending.Ending.{Ending}
+use Rattle.tool_runs.specs.declared.output.ending.Ending.TheVariants.{Done}
+use Rattle.tool_runs.specs.declared.output.ending.Style.{Style}
+use Rattle.tool_runs.specs.declared.output.halt.Halt.{Halt}
+use Rattle.tool_runs.specs.declared.output.halt.Halt.TheVariants as halts
+use Rattle.tool_runs.specs.declared.output.stop.Stop.{Stop}
+use Rattle.tool_runs.specs.declared.output.stop.Stop.TheVariants as stops
+use Rattle.tool_runs.specs.output.Outputs.{after_pieces, text_of, Output, Refusal, ◌>>=◌, unless_refused, finished}
+use Rattle.tool_runs.specs.output.Runs.{Writes, Leads, Steps, Comes, ComesTold, at_number, coming, told_refusal}
+use Rattle.tool_runs.proofs.OfOutput.Written.{concat-append, writes_on, stops_here}
+use Rattle.tool_runs.specs.declared.front.front.Front.{Front as Read}
+use Rattle.tool_runs.specs.front.Fronts.{Front, closed}
+use Rattle.tool_runs.specs.front.Reading.{FrontIs, GivesFront}
 use Rattle.tool_runs.specs.Commands.{answer_to, command_output, with_body, with_end}
 use Rattle.tool_runs.specs.Stopping.{Concludes}
 

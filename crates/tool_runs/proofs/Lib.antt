@@ -1,2 +1,4 @@
+pub mod OfFront
+pub mod OfOutput
 pub mod Ended
 pub mod Joined

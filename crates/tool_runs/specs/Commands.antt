@@ -2,10 +2,10 @@
 use Rattle.std.specs.Prelude.{ℕ, List, length, Result, Ok}
 use Rattle.xt_io.specs.declared.Item.{Item}
 use Rattle.xt_io.specs.Bundles.{Bundle}
-use Rattle.tool_output.specs.declared.ending.Ending.TheVariants.{Done}
-use Rattle.tool_output.specs.declared.ending.Style.{Style}
-use Rattle.tool_output.specs.Outputs.{Output, Refusal, ◌>>=◌, unless_refused}
-use Rattle.tool_front.specs.Fronts.{Front, front_of, closed}
+use Rattle.tool_runs.specs.declared.output.ending.Ending.TheVariants.{Done}
+use Rattle.tool_runs.specs.declared.output.ending.Style.{Style}
+use Rattle.tool_runs.specs.output.Outputs.{Output, Refusal, ◌>>=◌, unless_refused}
+use Rattle.tool_runs.specs.front.Fronts.{Front, front_of, closed}
 
 -- the front, and what comes behind it
 abbrev pub command_output : Style → (Front → Result Output Refusal) → Bundle → Output

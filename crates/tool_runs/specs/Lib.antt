@@ -1,2 +1,4 @@
+pub mod front
+pub mod output
 pub mod Commands
 pub mod Stopping

@@ -1,15 +1,15 @@
 -- How a command ends that stopped.
 use Rattle.std.specs.Prelude.{◌≡◌, ℕ, ◌≤◌, ◌⊎◌, List, Option, Result, Ok, Err, IsErrOf}
 use Rattle.xt_io.specs.Outside.{Rose}
-use Rattle.tool_output.specs.declared.ending.Ending.{Ending}
-use Rattle.tool_output.specs.declared.ending.Ending.TheVariants.{Done}
-use Rattle.tool_output.specs.declared.ending.Style.{Style}
-use Rattle.tool_output.specs.declared.halt.Halt.{Halt}
-use Rattle.tool_output.specs.declared.halt.Halt.TheVariants as halts
-use Rattle.tool_output.specs.declared.stop.Stop.{Stop}
-use Rattle.tool_output.specs.declared.stop.Stop.TheVariants as stops
-use Rattle.tool_output.specs.Outputs.{refused}
-use Rattle.tool_output.specs.Runs.{Ends, refusal}
+use Rattle.tool_runs.specs.declared.output.ending.Ending.{Ending}
+use Rattle.tool_runs.specs.declared.output.ending.Ending.TheVariants.{Done}
+use Rattle.tool_runs.specs.declared.output.ending.Style.{Style}
+use Rattle.tool_runs.specs.declared.output.halt.Halt.{Halt}
+use Rattle.tool_runs.specs.declared.output.halt.Halt.TheVariants as halts
+use Rattle.tool_runs.specs.declared.output.stop.Stop.{Stop}
+use Rattle.tool_runs.specs.declared.output.stop.Stop.TheVariants as stops
+use Rattle.tool_runs.specs.output.Outputs.{refused}
+use Rattle.tool_runs.specs.output.Runs.{Ends, refusal}
 
 -- with its last line, or with nothing more
 abbrev pub Concludes : Style → Stop → Result Ending Halt → Option (List ℕ) → Option (List ℕ) → Type 0

@@ -2,11 +2,11 @@
 ghost use Rattle.std.specs.Prelude.{◌≡◌, IfErr, OnOk};
 ghost use Rattle.std.specs.Option.{option_map};
 ghost use Rattle.std.specs.Io.KnownBytes.{IsAtEnd};
-ghost use Rattle.tool_output.specs.Runs.{ComesTold, MayGo, StopsBundle, StopsReading, coming};
-ghost use Rattle.tool_front.specs.Fronts.{closed};
+ghost use Rattle.tool_runs.specs.output.Runs.{ComesTold, MayGo, StopsBundle, StopsReading, coming};
+ghost use Rattle.tool_runs.specs.front.Fronts.{closed};
 
+use crate::output::{Next, Stop, next_of, pass_other, refuse_fault};
 use std::alloc::Global;
-use tool_output::{Next, Stop, next_of, pass_other, refuse_fault};
 use xt_io::{BundleReader, Source};
 
 /// Reads the rest of a bundle, in which Notes alone have a place, to its end. It gives the reader back.

@@ -4,16 +4,16 @@ ghost use Rattle.std.specs.List.{concat};
 ghost use Rattle.std.specs.Option.{option_map};
 ghost use Rattle.std.specs.Io.KnownBytes.{IsAtEnd};
 ghost use Rattle.xt_io.specs.Bundles.{bundle, nothing};
-ghost use Rattle.tool_output.specs.Outputs.{Output, after_pieces, unless_refused};
-ghost use Rattle.tool_output.specs.Runs.{Halts, HaltsWriting, MayGo, Steps, StopsWriting, Writes, coming, turns_left};
-ghost use Rattle.tool_front.specs.Reading.{AreWithin};
+ghost use Rattle.tool_runs.specs.output.Outputs.{Output, after_pieces, unless_refused};
+ghost use Rattle.tool_runs.specs.output.Runs.{Halts, HaltsWriting, MayGo, Steps, StopsWriting, Writes, coming, turns_left};
+ghost use Rattle.tool_runs.specs.front.Reading.{AreWithin};
 ghost use Rattle.tool_runs.specs.Commands.{answer_to, body_behind, command_output, ends_behind, with_body, with_end};
 ghost use Rattle.tool_runs.specs.Stopping.{Concludes, StopsSo};
 
 use crate::closing::close_body;
+use crate::front::{Front, read_front};
+use crate::output::{Ending, Halt, Next, Stop, Style, Turns, last, run_body, say};
 use std::alloc::Global;
-use tool_front::{Front, read_front};
-use tool_output::{Ending, Halt, Next, Stop, Style, Turns, last, run_body, say};
 use xt_io::{BundleReader, Item, Sink, Source};
 
 /// What the records of a front come to before a body: what is written before it, a turn for each of its records, and what is written at its
@@ -22,9 +22,9 @@ pub trait Prepares {
     ghost use Rattle.std.specs.Prelude.{◌≡◌, ◌≤◌, ℕ, List, Result, Some, length};
     ghost use Rattle.xt_io.specs.declared.Item.{Item};
     ghost use Rattle.xt_io.specs.Bundles.{Bundle, nothing};
-    ghost use Rattle.tool_output.specs.Outputs.{Output, Refusal, after_pieces, finished};
-    ghost use Rattle.tool_output.specs.Runs.{Comes, Steps, StopsWriting};
-    ghost use Rattle.tool_front.specs.Reading.{AreWithin};
+    ghost use Rattle.tool_runs.specs.output.Outputs.{Output, Refusal, after_pieces, finished};
+    ghost use Rattle.tool_runs.specs.output.Runs.{Comes, Steps, StopsWriting};
+    ghost use Rattle.tool_runs.specs.front.Reading.{AreWithin};
 
     /// The turns.
     type Run: Turns + Drop;
@@ -62,10 +62,10 @@ pub trait Prepares {
 pub trait Answers {
     ghost use Rattle.std.specs.Prelude.{◌≡◌, ◌≤◌, ℕ, List, Result, Some, length};
     ghost use Rattle.xt_io.specs.declared.Item.{Item};
-    ghost use Rattle.tool_output.specs.declared.ending.Style.{Style};
-    ghost use Rattle.tool_output.specs.Outputs.{Refusal, finished, unless_refused};
-    ghost use Rattle.tool_output.specs.Runs.{Steps, StopsWriting};
-    ghost use Rattle.tool_front.specs.Reading.{AreWithin};
+    ghost use Rattle.tool_runs.specs.declared.output.ending.Style.{Style};
+    ghost use Rattle.tool_runs.specs.output.Outputs.{Refusal, finished, unless_refused};
+    ghost use Rattle.tool_runs.specs.output.Runs.{Steps, StopsWriting};
+    ghost use Rattle.tool_runs.specs.front.Reading.{AreWithin};
     ghost use Rattle.tool_runs.specs.Commands.{answer_to};
 
     /// Whether lines or records are written.

@@ -3,12 +3,12 @@ ghost use Rattle.std.specs.Prelude.{◌≡◌, ◌++◌, Ok, Err, IfOk};
 ghost use Rattle.type_trees.specs.View.{tree, val};
 ghost use Rattle.type_rules.specs.Valid.{type_fault};
 ghost use Rattle.xcdr_model.specs.Samples.{sample};
-ghost use Rattle.tool_lines.specs.Lines as lines;
+ghost use Rattle.tool_samples.specs.lines.Lines as lines;
 
+use crate::lines::{malformed_text, outcome_text, sample_record};
 use settled_parts::Outcome;
 use std::alloc::Global;
-use tool_lines::{malformed_text, outcome_text, sample_record};
-use tool_output::{line, record};
+use tool_runs::output::{line, record};
 use type_trees::{Value, XType};
 use xcdr_model::Why;
 use xcdr_writer::size_of_sample;
@@ -25,7 +25,7 @@ pub trait Shows {
     ghost use Rattle.projection_laws.specs.Premises.{IsValid};
     ghost use Rattle.xcdr_model.specs.Samples as samples;
     ghost use Rattle.xcdr_model.specs.declared.malformed.Fault.{Fault};
-    ghost use Rattle.tool_output.specs.declared.ending.Style.{Style};
+    ghost use Rattle.tool_runs.specs.declared.output.ending.Style.{Style};
 
     /// Whether lines or records are written.
     ghost style: { Style };
@@ -48,8 +48,8 @@ pub trait Shows {
 pub struct Lines;
 
 impl Shows for Lines {
-    ghost use Rattle.tool_output.specs.declared.ending.Style.TheVariants as styles;
-    ghost use Rattle.tool_lines.specs.Lines.{outcome_line};
+    ghost use Rattle.tool_runs.specs.declared.output.ending.Style.TheVariants as styles;
+    ghost use Rattle.tool_samples.specs.lines.Lines.{outcome_line};
 
     ghost style = { styles.Lines };
 
@@ -77,8 +77,8 @@ pub struct Conversions {
 }
 
 impl Shows for Conversions {
-    ghost use Rattle.tool_output.specs.declared.ending.Style.TheVariants as styles;
-    ghost use Rattle.tool_lines.specs.Lines.{converted};
+    ghost use Rattle.tool_runs.specs.declared.output.ending.Style.TheVariants as styles;
+    ghost use Rattle.tool_samples.specs.lines.Lines.{converted};
 
     ghost style = { styles.Records };
 

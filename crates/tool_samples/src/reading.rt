@@ -4,7 +4,7 @@ ghost use Rattle.projection_laws.specs.Premises.{IsValid};
 use crate::forms::Shows;
 use crate::sampling::sample_piece;
 use std::alloc::Global;
-use tool_output::{Stop, Turns, say};
+use tool_runs::output::{Stop, Turns, say};
 use type_trees::XType;
 use xt_io::{BundleReader, Head, Kind, Sink, Source};
 use xt_shapes::Rep;
@@ -32,9 +32,9 @@ impl<F: Shows + Drop> Samples<F> {
 impl<F: Shows + Drop> Turns for Samples<F> {
     ghost use Rattle.type_trees.specs.View.{tree};
     ghost use Rattle.xt_io.specs.declared.Kind.TheVariants.{Sample};
-    ghost use Rattle.tool_output.specs.Outputs.{run, taking, finished, same_kind};
-    ghost use Rattle.tool_output.proofs.Turning.{run_at_fault, run_at_other};
-    ghost use Rattle.tool_lines.specs.Lines.{shown_turn};
+    ghost use Rattle.tool_runs.specs.output.Outputs.{run, taking, finished, same_kind};
+    ghost use Rattle.tool_runs.proofs.OfOutput.Turning.{run_at_fault, run_at_other};
+    ghost use Rattle.tool_samples.specs.lines.Lines.{shown_turn};
 
     ghost style = { F.style };
 

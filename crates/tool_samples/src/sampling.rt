@@ -4,20 +4,20 @@ ghost use Rattle.type_trees.specs.Bridge.{type_shape};
 ghost use Rattle.settled_parts.specs.Settling.{outcome_val};
 ghost use Rattle.projection_laws.specs.Premises.{IsValid};
 ghost use Rattle.xcdr_model.specs.Samples.{read_sample};
-ghost use Rattle.tool_output.specs.declared.turns.Next.TheVariants.{Record};
-ghost use Rattle.tool_output.specs.Runs.{coming, IsReady, GoesOn, StopsReading, TakesPayload};
+ghost use Rattle.tool_runs.specs.declared.output.turns.Next.TheVariants.{Record};
+ghost use Rattle.tool_runs.specs.output.Runs.{coming, IsReady, GoesOn, StopsReading, TakesPayload};
 ghost use Rattle.tool_samples.specs.Sampling.{Says};
 
 use crate::forms::Shows;
 use settled_parts::Outcome;
 use std::alloc::Global;
-use tool_output::{Halt, Stop, stop_for};
+use tool_runs::output::{Halt, Stop, stop_for};
 use type_trees::XType;
-use wire_cursor::DecodeFault;
-use wire_streams::StreamCursor;
 use xt_io::{BundleReader, Head, Source};
 use xt_lists::Text;
 use xt_shapes::Rep;
+use xt_wire::cursor::DecodeFault;
+use xt_wire::streams::StreamCursor;
 
 // What is written of what was read.
 fn piece_of<F: Shows>(

@@ -15,24 +15,24 @@ use Rattle.type_object.specs.declared.pool.PoolFault.TheVariants as F
 use Rattle.idl_types.specs.State.{Declared, declared}
 use Rattle.type_resolve.specs.Adding.{all_added, Adds, Halts}
 use Rattle.type_resolve.specs.Objects.{texts}
-use Rattle.tool_output.specs.declared.halt.Halt.TheVariants as halts
-use Rattle.tool_output.specs.declared.stop.Stop.{Stop}
-use Rattle.tool_output.specs.declared.stop.Stop.TheVariants as stops
-use Rattle.tool_output.specs.Outputs.{Refusal, ◌>>=◌}
-use Rattle.tool_output.specs.Runs.{Refuses, Comes, refusal}
+use Rattle.tool_runs.specs.declared.output.halt.Halt.TheVariants as halts
+use Rattle.tool_runs.specs.declared.output.stop.Stop.{Stop}
+use Rattle.tool_runs.specs.declared.output.stop.Stop.TheVariants as stops
+use Rattle.tool_runs.specs.output.Outputs.{Refusal, ◌>>=◌}
+use Rattle.tool_runs.specs.output.Runs.{Refuses, Comes, refusal}
 use Rattle.tool_types.specs.Types as spec
 use Rattle.tool_types.specs.Types.{idl_fault_text}
 use Rattle.xt_io.specs.declared.Item.{Item}
 use Rattle.tool_types.specs.declared.declaring.Declared.{Declared as Record}
 use Rattle.tool_types.specs.Declaring.{AllGood, AreGood, IsGood, Joins, Leaves, IsRefusal, IdlStops, RefusesTypes, declared_view}
 use Rattle.xt_io.specs.Bundles.{limit_of}
-use Rattle.tool_front.specs.Reading.{AreWithin}
+use Rattle.tool_runs.specs.front.Reading.{AreWithin}
 use Rattle.type_trees.specs.Trees.{Tree}
 use Rattle.idl_tokens.specs.Classes.{Text}
 use Rattle.xt_idl.specs.Whole.{idl}
 use Rattle.idl_laws.specs.Printable.{AreDefinitions}
-use Rattle.idl_parsed.specs.Laws.{ParsedIsPrintable}
-use Rattle.parsed_objects.specs.Defining.{ParsedHasObjects}
+use Rattle.idl_laws.specs.parsed.Laws.{ParsedIsPrintable}
+use Rattle.resolve_laws.specs.parsed.Defining.{ParsedHasObjects}
 use Rattle.type_resolve.specs.Objects.{has_objects}
 
 -- the types from one on

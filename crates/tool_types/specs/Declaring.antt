@@ -12,11 +12,11 @@ use Rattle.idl_types.specs.State as idl_types
 use Rattle.idl_input.specs.declared.faults.IdlFault.{IdlFault}
 use Rattle.idl_input.specs.declared.faults.IdlFault.TheVariants as idl_fault
 use Rattle.tool_types.specs.Types.{idl_fault_text}
-use Rattle.tool_output.specs.declared.halt.Halt.TheVariants as halts
-use Rattle.tool_output.specs.declared.stop.Stop.{Stop}
-use Rattle.tool_output.specs.declared.stop.Stop.TheVariants as stops
-use Rattle.tool_output.specs.Outputs.{Refusal}
-use Rattle.tool_output.specs.Runs.{refusal, Refuses}
+use Rattle.tool_runs.specs.declared.output.halt.Halt.TheVariants as halts
+use Rattle.tool_runs.specs.declared.output.stop.Stop.{Stop}
+use Rattle.tool_runs.specs.declared.output.stop.Stop.TheVariants as stops
+use Rattle.tool_runs.specs.output.Outputs.{Refusal}
+use Rattle.tool_runs.specs.output.Runs.{refusal, Refuses}
 use Rattle.tool_types.specs.Types as spec
 use Rattle.tool_types.specs.declared.declaring.Declared.{Declared}
 use Rattle.tool_types.specs.declared.declaring.Declared.TheVariants.{Types, Object}

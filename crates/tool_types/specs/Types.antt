@@ -14,8 +14,8 @@ use Rattle.idl_input.specs.declared.faults.IdlFault.{IdlFault}
 use Rattle.xt_idl.specs.Whole.{idl}
 use Rattle.type_resolve.specs.Adding.{all_added}
 use Rattle.type_resolve.specs.Objects.{texts}
-use Rattle.tool_output.specs.declared.ending.Cause.TheVariants.{Types as TypesFault}
-use Rattle.tool_output.specs.Outputs.{Refusal, ◌>>=◌}
+use Rattle.tool_runs.specs.declared.output.ending.Cause.TheVariants.{Types as TypesFault}
+use Rattle.tool_runs.specs.output.Outputs.{Refusal, ◌>>=◌}
 use Rattle.object_formats.specs.Words.{object_rule_text}
 use Rattle.type_trees.specs.Ids.{id_text}
 use Rattle.idl_input.specs.FaultTexts.{fault_text}

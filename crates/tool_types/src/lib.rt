@@ -2,6 +2,7 @@
 #![tactic(auto)]
 
 mod declaring;
+pub mod names;
 mod refusals;
 
 pub use declaring::{Declared, declare};

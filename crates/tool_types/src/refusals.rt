@@ -5,7 +5,7 @@ ghost use Rattle.tool_types.specs.Declaring.{RefusesTypes, IdlStops, IsRefusal};
 use idl_input::IdlFault;
 use object_formats::{Fault, ObjectRule};
 use std::alloc::Global;
-use tool_output::{Cause, Halt, Refused, Stop};
+use tool_runs::output::{Cause, Halt, Refused, Stop};
 use type_object::PoolFault;
 use type_trees::HashId;
 use xt_lists::{OutOfMemory, Text};

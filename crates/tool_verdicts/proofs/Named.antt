@@ -15,14 +15,14 @@ use Rattle.idl_input.specs.declared.faults.IdlFault.{IdlFault}
 use Rattle.idl_types.specs.State as idl_types
 use Rattle.xt_idl.specs.Whole.{idl}
 use Rattle.idl_laws.specs.Printable.{AreDefinitions}
-use Rattle.idl_parsed.specs.Laws.{ParsedIsPrintable}
+use Rattle.idl_laws.specs.parsed.Laws.{ParsedIsPrintable}
 use Rattle.object_walks.specs.Resolving as walks
 use Rattle.object_walks.specs.Resolving.{resolved}
-use Rattle.tool_output.specs.Outputs.{Refusal, ◌>>=◌}
+use Rattle.tool_runs.specs.output.Outputs.{Refusal, ◌>>=◌}
 use Rattle.tool_types.specs.Types.{Declared, types, object, Declaration, text_parsed, object_added, declared_as, declared_by, declare, name_in, with_objects}
 use Rattle.tool_words.specs.Words.{Form, plain, within, by_id, Reference}
-use Rattle.tool_names.specs.Names.{Meaning, typed, identified, typed_as, has_name, in_record, or_else, in_records, in_record_at, meant, or_refused, type_meant, type_named, both_named, both_topped, pair_named}
-use Rattle.tool_names.proofs.Soundness.{resolved_valid}
+use Rattle.tool_types.specs.names.Names.{Meaning, typed, identified, typed_as, has_name, in_record, or_else, in_records, in_record_at, meant, or_refused, type_meant, type_named, both_named, both_topped, pair_named}
+use Rattle.tool_types.proofs.OfNames.Soundness.{resolved_valid}
 use Rattle.tool_verdicts.specs.Verdicts.{NamedAreValid}
 
 -- ---- what is declared

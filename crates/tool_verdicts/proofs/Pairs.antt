@@ -11,10 +11,10 @@ use Rattle.object_walks.specs.Resolving.{resolved}
 use Rattle.xcdr_model.specs.declared.verdict.Policy.{Policy}
 use Rattle.xcdr_model.specs.Failure.{First, first_failure}
 use Rattle.pair_judge.specs.Judged.{IsVerdict}
-use Rattle.tool_output.specs.Outputs.{Refusal, ◌>>=◌}
+use Rattle.tool_runs.specs.output.Outputs.{Refusal, ◌>>=◌}
 use Rattle.tool_types.specs.Types.{Declared}
 use Rattle.tool_words.specs.Words.{Reference}
-use Rattle.tool_names.specs.Names.{Meaning, identified, meant, type_meant, type_named, both_named, both_topped, pair_named}
+use Rattle.tool_types.specs.names.Names.{Meaning, identified, meant, type_meant, type_named, both_named, both_topped, pair_named}
 use Rattle.tool_verdicts.proofs.Named.{resolves, topped_valid}
 
 both_are : (a b : Result Tree Refusal) (ts : Tree × Tree) → (let r : Result (Tree × Tree) Refusal = a >>= λ t1. b >>= λ t2. Ok (t1, t2) in r) ≡ Ok ts → (a ≡ Ok ts.0) × (b ≡ Ok ts.1)

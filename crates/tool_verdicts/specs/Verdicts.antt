@@ -5,11 +5,11 @@ use Rattle.type_trees.specs.declared.types.HashId.{HashId}
 use Rattle.type_trees.specs.Trees.{Tree}
 use Rattle.type_rules.specs.Valid.{type_fault}
 use Rattle.type_object.specs.Pools.{Texts}
-use Rattle.tool_output.specs.Outputs.{Refusal, ◌>>=◌}
-use Rattle.tool_lines.specs.Lines.{judged}
+use Rattle.tool_runs.specs.output.Outputs.{Refusal, ◌>>=◌}
+use Rattle.tool_samples.specs.lines.Lines.{judged}
 use Rattle.tool_types.specs.Types.{Declared, declare}
-use Rattle.tool_names.specs.Identified.{id_named}
-use Rattle.tool_names.specs.Names.{pair_named, top_named}
+use Rattle.tool_types.specs.names.Identified.{id_named}
+use Rattle.tool_types.specs.names.Names.{pair_named, top_named}
 use Rattle.tool_words.specs.Words.{Pair, Reference}
 
 -- the reader's type, where it is assignable from the writer's

@@ -8,15 +8,15 @@ ghost use Rattle.object_walks.specs.Resolving.{resolved};
 ghost use Rattle.pair_judge.specs.Judged.{IsVerdict};
 ghost use Rattle.tool_words.specs.View.{form_view, reference_view};
 ghost use Rattle.tool_types.specs.Declaring.{AllGood, declared_view};
-ghost use Rattle.tool_names.specs.Names as names;
+ghost use Rattle.tool_types.specs.names.Names as names;
 
 use assignability::{Verdict, judge_under};
 use pair_judge::{Steps, judge_pairs_under};
 use std::alloc::Global;
 use std::marker::Brand;
 use std::sync::ledger::{Blank, Ledger};
-use tool_names::{Meaning, meant};
 use tool_types::Declared;
+use tool_types::names::{Meaning, meant};
 use tool_words::{Pair, Reference};
 use type_object::Pool;
 use type_rules::is_within_limits;

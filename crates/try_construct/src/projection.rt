@@ -1,7 +1,7 @@
 ghost use Rattle.std.specs.Prelude.{◌≡◌, IfOk, IsTrue};
 ghost use Rattle.projection_laws.specs.Premises.{IsValid, IsYes};
 ghost use Rattle.settled_parts.specs.Settling.{outcome_val};
-ghost use Rattle.sample_types.specs.Tops.{is_top};
+ghost use Rattle.type_trees.specs.samples.Tops.{is_top};
 ghost use Rattle.try_construct.specs.Typed.{IsTyped};
 ghost use Rattle.type_trees.specs.Bridge.{type_shape};
 ghost use Rattle.type_trees.specs.View.{val};

@@ -6,10 +6,10 @@ use Rattle.std.proofs.lemmas.Grind.{common_steps}
 use Rattle.std.specs.Int.{w32, from_be_bytes}
 use Rattle.std.specs.declared.option.Option.{Option}
 use Rattle.std.specs.Io.KnownBytes.{prepend_known}
-use Rattle.lookup_messages.specs.declared.messages.Message.{Message}
+use Rattle.type_lookup.specs.declared.messages.messages.Message.{Message}
 use Rattle.type_lookup.specs.declared.faults.FrameFault.{FrameFault}
 use Rattle.type_lookup.specs.declared.faults.FrameFault.TheVariants.{LinkFault, Truncated, TooLong, BadMessage, OutOfMemory}
-use Rattle.lookup_messages.specs.Fields.{Field, got, bad, payload}
+use Rattle.type_lookup.specs.messages.Fields.{Field, got, bad, payload}
 use Rattle.type_lookup.specs.Frames.{Front, no_frame, framed, broken, filled, sized, lengthy, front, ReadsFrame, FrontIs}
 
 -- a front that stands whatever follows, with what follows behind it

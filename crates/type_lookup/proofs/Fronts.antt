@@ -5,7 +5,7 @@ use Rattle.std.proofs.lemmas.Grind.{common_steps}
 use Rattle.std.specs.Int.{w32, from_be_bytes, to_be_bytes}
 use Rattle.type_lookup.specs.declared.faults.FrameFault.{FrameFault}
 use Rattle.type_lookup.specs.declared.faults.FrameFault.TheVariants.{LinkFault, Truncated, TooLong, BadMessage, OutOfMemory}
-use Rattle.lookup_messages.specs.Fields.{payload}
+use Rattle.type_lookup.specs.messages.Fields.{payload}
 use Rattle.type_lookup.specs.Causes.{IsOutside}
 use Rattle.type_lookup.specs.Frames.{Answers, broken, filled, sized, lengthy, front}
 

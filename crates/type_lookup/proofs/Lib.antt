@@ -1,3 +1,4 @@
+pub mod OfMessages
 pub mod Taking
 pub mod Fronts
 pub mod Following

@@ -2,11 +2,11 @@
 use Rattle.std.proofs.Common.{◌≡◌, ◌≢◌, [], sym, ap, ◌∙◌, refl, length, arith}
 use Rattle.std.proofs.lemmas.Nat.{from_be_bytes-to_be_bytes_4}
 use Rattle.std.specs.Int.{w32, to_be_bytes}
-use Rattle.lookup_messages.specs.declared.messages.Message.{Message}
-use Rattle.lookup_messages.specs.declared.messages.Message.TheVariants.{GetTypes, GetTypeDependencies, PutTypes, Types, Dependencies, Put}
+use Rattle.type_lookup.specs.declared.messages.messages.Message.{Message}
+use Rattle.type_lookup.specs.declared.messages.messages.Message.TheVariants.{GetTypes, GetTypeDependencies, PutTypes, Types, Dependencies, Put}
 use Rattle.type_lookup.specs.Frames.{filled, framed, front}
-use Rattle.lookup_messages.specs.Fields.{got, payload}
-use Rattle.lookup_messages.specs.Spelling.{HasFrame, payload_of, frame_of}
+use Rattle.type_lookup.specs.messages.Fields.{got, payload}
+use Rattle.type_lookup.specs.messages.Spelling.{HasFrame, payload_of, frame_of}
 use Rattle.type_lookup.proofs.Fronts.{front-filled}
 
 some-octets : (message : Message) → length (payload_of message) ≢ 0

@@ -3,10 +3,10 @@ use Rattle.std.proofs.Common.{◌≡◌, ℕ, List, [], ◌∷◌, ◌++◌, Non
 use Rattle.std.proofs.lemmas.Bool.{cases_lt, cases_eq}
 use Rattle.std.proofs.lemmas.Nat.{be_bytes_4}
 use Rattle.std.specs.Int.{w32, from_be_bytes, to_be_bytes}
-use Rattle.lookup_messages.specs.declared.messages.Message.{Message}
-use Rattle.lookup_messages.specs.Fields.{Field, got, bad, payload}
-use Rattle.lookup_messages.specs.Spelling.{payload_of, frame_of, AreOctets}
-use Rattle.lookup_messages.proofs.Limits.{message_limits, front-octets, rest-octets}
+use Rattle.type_lookup.specs.declared.messages.messages.Message.{Message}
+use Rattle.type_lookup.specs.messages.Fields.{Field, got, bad, payload}
+use Rattle.type_lookup.specs.messages.Spelling.{payload_of, frame_of, AreOctets}
+use Rattle.type_lookup.proofs.OfMessages.Limits.{message_limits, front-octets, rest-octets}
 use Rattle.type_lookup.specs.Frames.{no_frame, framed, filled, sized, lengthy, front, Frames, frames}
 use Rattle.type_lookup.specs.Sequences.{AreFrames}
 use Rattle.type_lookup.proofs.Following.{front-followed, followed, IsWhole, sized-cut, sized-full, sized-long, lengthy-cut, lengthy-full}

@@ -2,11 +2,11 @@
 use Rattle.std.specs.Prelude.{◌≡◌, ℕ, zero, suc, ◌-◌, ◌==◌, nat_lt, if◌then◌else◌, List, [], ◌∷◌, length, take, drop, Option, Some, None, Result, Ok, Err}
 use Rattle.std.specs.Int.{w32, from_be_bytes}
 use Rattle.std.specs.Io.KnownBytes.{append_known, prepend_known, IsAtEnd}
-use Rattle.lookup_messages.specs.declared.messages.Message.{Message}
+use Rattle.type_lookup.specs.declared.messages.messages.Message.{Message}
 use Rattle.type_lookup.specs.declared.faults.FrameFault.{FrameFault}
 use Rattle.type_lookup.specs.declared.faults.FrameFault.TheVariants.{LinkFault, Truncated, TooLong, BadMessage, OutOfMemory}
-use Rattle.lookup_messages.specs.Fields.{Field, got, bad, payload}
-use Rattle.lookup_messages.specs.Spelling.{frame_of}
+use Rattle.type_lookup.specs.messages.Fields.{Field, got, bad, payload}
+use Rattle.type_lookup.specs.messages.Spelling.{frame_of}
 
 -- What stands at the front of the octets: nothing, a frame with the octets behind it, or what is no frame.
 pub data Front : Type 0 where

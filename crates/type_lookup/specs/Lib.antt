@@ -1,3 +1,4 @@
+pub mod messages
 pub mod Frames
 pub mod Causes
 pub mod Worked

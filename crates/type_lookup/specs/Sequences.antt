@@ -1,7 +1,7 @@
 -- Frames one after another.
 use Rattle.std.specs.Prelude.{◌≡◌, ℕ, List, [], ◌∷◌, ◌++◌, None, Some}
-use Rattle.lookup_messages.specs.declared.messages.Message.{Message}
-use Rattle.lookup_messages.specs.Spelling.{frame_of, AreOctets}
+use Rattle.type_lookup.specs.declared.messages.messages.Message.{Message}
+use Rattle.type_lookup.specs.messages.Spelling.{frame_of, AreOctets}
 use Rattle.type_lookup.specs.declared.faults.FrameFault.{FrameFault}
 use Rattle.type_lookup.specs.Frames.{no_frame, framed, broken, front, frames}
 

@@ -1,9 +1,9 @@
 -- Worked examples, checked by computation: frames, and what is none.
 use Rattle.std.specs.Prelude.{◌≡◌, ℕ, List, [], ◌∷◌, ◌++◌, Some}
 use Rattle.std.proofs.Common.{refl}
-use Rattle.lookup_messages.specs.declared.messages.Message.TheVariants.{GetTypes}
-use Rattle.lookup_messages.specs.Fields.{payload}
-use Rattle.lookup_messages.specs.Spelling.{payload_of, frame_of}
+use Rattle.type_lookup.specs.declared.messages.messages.Message.TheVariants.{GetTypes}
+use Rattle.type_lookup.specs.messages.Fields.{payload}
+use Rattle.type_lookup.specs.messages.Spelling.{payload_of, frame_of}
 use Rattle.type_lookup.specs.declared.faults.FrameFault.TheVariants.{Truncated, TooLong, BadMessage}
 use Rattle.type_lookup.specs.Frames.{no_frame, framed, broken, front, frames, frames_within}
 

@@ -2,15 +2,15 @@
 ghost use Rattle.std.specs.Prelude.{◌≡◌, ◌++◌, ℕ, List, [], IfOk, IfErr, IfSome, OnOk};
 ghost use Rattle.std.specs.Int.{w32, from_be_bytes, to_be_bytes};
 ghost use Rattle.std.specs.Io.KnownBytes.{append_known};
-ghost use Rattle.lookup_messages.specs.Fields.{got, payload};
-ghost use Rattle.lookup_messages.specs.Spelling.{HasFrame, frame_of, payload_of};
+ghost use Rattle.type_lookup.specs.messages.Fields.{got, payload};
+ghost use Rattle.type_lookup.specs.messages.Spelling.{HasFrame, frame_of, payload_of};
 ghost use Rattle.type_lookup.specs.Causes.{HasFrameCause, IsOutside};
 ghost use Rattle.type_lookup.specs.Frames.{FrontIs, ReadsFrame, framed, front};
 
 use crate::faults::FrameFault;
+use crate::messages::{Message, PayloadFault, read_payload, spell};
 use crate::transfer::{fill, read_text, write_whole};
 use byteorder::{BigEndian, ByteOrder};
-use lookup_messages::{Message, PayloadFault, read_payload, spell};
 use std::alloc::Global;
 use xt_io::Link;
 use xt_lists::{OutOfMemory, Text};

@@ -5,12 +5,13 @@
 mod faults;
 mod frame;
 mod laws;
+pub mod messages;
 mod transfer;
 
-pub use faults::FrameFault;
-pub use frame::{read_frame, write_frame};
-pub use laws::{frames_by_front, frames_follow};
-pub use lookup_messages::{
+pub use crate::messages::{
     Fetched, GET_TYPE_DEPENDENCIES, GET_TYPES, Message, Needed, Operation, PUT_TYPES, payload_size,
     payloads_are_spellings,
 };
+pub use faults::FrameFault;
+pub use frame::{read_frame, write_frame};
+pub use laws::{frames_by_front, frames_follow};

@@ -1,8 +1,8 @@
 -- The rounds of a push, one after another.
 use Rattle.std.proofs.Common.{◌≡◌, ℕ, ◌+◌, List, [], ◌∷◌, ◌++◌, Option, Result, refl, sym, ap, ap₂, subst, ◌∙◌, append_assoc, append-nil}
 use Rattle.std.specs.Prelude.{None, Some, Ok, Err}
-use Rattle.lookup_messages.specs.declared.messages.Message.{Message}
-use Rattle.lookup_messages.specs.Spelling.{frame_of}
+use Rattle.type_lookup.specs.declared.messages.messages.Message.{Message}
+use Rattle.type_lookup.specs.messages.Spelling.{frame_of}
 use Rattle.type_lookup.specs.Sequences.{frames_of, AreFrames}
 use Rattle.type_lookup.specs.declared.faults.FrameFault.{FrameFault}
 use Rattle.type_lookup.specs.declared.faults.FrameFault.TheVariants as frame
@@ -10,12 +10,12 @@ use Rattle.lookup_fetch.specs.FrameFaults.{fault_by as fetch_fault_by}
 use Rattle.lookup_fetch.specs.Fetches.{IsPrefix}
 use Rattle.lookup_fetch.specs.Steps.{Exchanges, ExchangesOver}
 use Rattle.lookup_fetch.proofs.Going.{passed_none, passed_more, frames-append, AreFrames-append}
-use Rattle.mirror_rounds.specs.declared.told.Told.{Told}
-use Rattle.mirror_rounds.specs.declared.told.PushFault.{PushFault}
-use Rattle.mirror_rounds.specs.declared.told.PushFault.TheVariants.{LinkFault, BadReply, OutOfMemory}
-use Rattle.mirror_rounds.specs.FrameFaults.{fault_by}
-use Rattle.mirror_rounds.specs.Rounds.{State, request, answered, waits, Rounds, ends, asks, unless_bad, last_round, round, rounds}
-use Rattle.mirror_rounds.specs.Pushes.{Answers, Pushes, PushesFrom}
+use Rattle.type_mirror.specs.declared.told.told.Told.{Told}
+use Rattle.type_mirror.specs.declared.told.told.PushFault.{PushFault}
+use Rattle.type_mirror.specs.declared.told.told.PushFault.TheVariants.{LinkFault, BadReply, OutOfMemory}
+use Rattle.type_mirror.specs.told.FrameFaults.{fault_by}
+use Rattle.type_mirror.specs.told.Rounds.{State, request, answered, waits, Rounds, ends, asks, unless_bad, last_round, round, rounds}
+use Rattle.type_mirror.specs.told.Pushes.{Answers, Pushes, PushesFrom}
 use Rattle.type_mirror.specs.Steps.{as_fetch, Says, Going, GoingOver, GoesOver}
 
 -- ---- faults

@@ -1,3 +1,5 @@
+pub mod OfPairs
+pub mod OfTold
 pub mod Going
 pub mod Requesting
 pub mod Settling

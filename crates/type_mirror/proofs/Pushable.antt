@@ -8,9 +8,9 @@ use Rattle.object_formats.specs.Objects.{Object}
 use Rattle.object_formats.specs.Tables.{object_of}
 use Rattle.type_object.specs.Names.{named_by}
 use Rattle.type_object.specs.Pools.{IsObject}
-use Rattle.lookup_messages.specs.declared.messages.Fetched.{Fetched}
+use Rattle.type_lookup.specs.declared.messages.messages.Fetched.{Fetched}
 use Rattle.lookup_fetch.specs.Rounds.{is_object}
-use Rattle.mirror_rounds.specs.Pushes.{IsOwn, MayPush}
+use Rattle.type_mirror.specs.told.Pushes.{IsOwn, MayPush}
 
 is_read : (octets : List ℕ) → is_object (object_of octets) ≡ true → IsObject octets
 is_read octets e = by (object_of octets) refl e

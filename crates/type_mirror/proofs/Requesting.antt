@@ -3,19 +3,19 @@ use Rattle.std.proofs.Common.{◌≡◌, ℕ, zero, suc, ◌+◌, ◌-◌, ◌<�
 use Rattle.std.specs.Prelude.{All, Some, nat_lt}
 use Rattle.std.proofs.lemmas.Bool.{lt-ltb, le-ltb, ltb-false}
 use Rattle.std.proofs.lemmas.List.{map_more}
-use Rattle.object_visits.proofs.Left.{next_item}
+use Rattle.type_object.proofs.OfVisits.Left.{next_item}
 use Rattle.std.proofs.lemmas.List.Elements.{All-nil, All-cons, All-head, All-tail}
 use Rattle.type_trees.specs.declared.types.HashId.{HashId}
 use Rattle.type_trees.specs.Ids.{is_object_kind}
 use Rattle.object_formats.proofs.OwnKinds.{text_short, text_kind}
-use Rattle.lookup_messages.specs.declared.messages.Fetched.{Fetched}
-use Rattle.lookup_messages.specs.declared.messages.Operation.TheVariants as operation
-use Rattle.lookup_messages.specs.declared.messages.Message.TheVariants.{PutTypes, GetTypes}
-use Rattle.lookup_messages.specs.declared.messages.Message.{Message}
-use Rattle.lookup_messages.specs.Spelling.{payload_of, HasFrame, HasHash, HasObjectLength, IsKnownId, head_octets, number_octets, object_octets, all_octets, counted_octets}
+use Rattle.type_lookup.specs.declared.messages.messages.Fetched.{Fetched}
+use Rattle.type_lookup.specs.declared.messages.messages.Operation.TheVariants as operation
+use Rattle.type_lookup.specs.declared.messages.messages.Message.TheVariants.{PutTypes, GetTypes}
+use Rattle.type_lookup.specs.declared.messages.messages.Message.{Message}
+use Rattle.type_lookup.specs.messages.Spelling.{payload_of, HasFrame, HasHash, HasObjectLength, IsKnownId, head_octets, number_octets, object_octets, all_octets, counted_octets}
 use Rattle.lookup_fetch.proofs.Asking.{gets_frame}
-use Rattle.mirror_rounds.specs.Rounds.{fitting, count_of, batch, octets_of, outcomes_of, put_request}
-use Rattle.mirror_rounds.specs.Pushes.{IsOwn}
+use Rattle.type_mirror.specs.told.Rounds.{fitting, count_of, batch, octets_of, outcomes_of, put_request}
+use Rattle.type_mirror.specs.told.Pushes.{IsOwn}
 use Rattle.type_mirror.specs.Objects.{IsShort}
 
 abbrev pub size : Fetched → ℕ

@@ -1,13 +1,13 @@
 -- Outcomes, one after another.
 use Rattle.std.proofs.Common.{◌≡◌, ℕ, suc, ◌<◌, Bool, true, false, cond, List, [], ◌∷◌, ◌++◌, length, take, drop, get_or, Option, sym, ap, ap₂, subst, ◌∙◌}
 use Rattle.std.specs.Prelude.{None, Ok, Err, nat_eq}
-use Rattle.object_visits.proofs.Left.{next_item}
-use Rattle.lookup_messages.specs.declared.messages.Fetched.{Fetched}
-use Rattle.mirror_rounds.specs.declared.told.Told.{Told}
-use Rattle.mirror_rounds.specs.declared.told.What.{What}
-use Rattle.mirror_rounds.specs.declared.told.PushFault.{PushFault}
-use Rattle.mirror_rounds.specs.Rounds.{Outcome, State, told_as, what_of, settled, start, batch, count_of, paired, put_request, request}
-use Rattle.mirror_rounds.specs.Pushes.{PushesFrom}
+use Rattle.type_object.proofs.OfVisits.Left.{next_item}
+use Rattle.type_lookup.specs.declared.messages.messages.Fetched.{Fetched}
+use Rattle.type_mirror.specs.declared.told.told.Told.{Told}
+use Rattle.type_mirror.specs.declared.told.told.What.{What}
+use Rattle.type_mirror.specs.declared.told.told.PushFault.{PushFault}
+use Rattle.type_mirror.specs.told.Rounds.{Outcome, State, told_as, what_of, settled, start, batch, count_of, paired, put_request, request}
+use Rattle.type_mirror.specs.told.Pushes.{PushesFrom}
 use Rattle.type_mirror.specs.Steps.{GoingOver}
 use Rattle.type_mirror.proofs.Going.{over_none, over_more, over_end, over_all_told}
 

@@ -1,2 +1,4 @@
+pub mod pairs
+pub mod told
 pub mod Objects
 pub mod Steps

@@ -1,18 +1,18 @@
 -- The requests of a push and their replies over a link, one after another (own).
 use Rattle.std.specs.Prelude.{◌≡◌, ◌+◌, ℕ, List, [], ◌∷◌, ◌++◌, drop, Option, Some, None, Result, Ok, Err}
-use Rattle.lookup_messages.specs.declared.messages.Fetched.{Fetched}
-use Rattle.lookup_messages.specs.declared.messages.Message.{Message}
+use Rattle.type_lookup.specs.declared.messages.messages.Fetched.{Fetched}
+use Rattle.type_lookup.specs.declared.messages.messages.Message.{Message}
 use Rattle.type_lookup.specs.Sequences.{frames_of, AreFrames}
 use Rattle.lookup_fetch.specs.declared.faults.FetchFault.{FetchFault}
 use Rattle.lookup_fetch.specs.declared.faults.FetchFault.TheVariants as fetch
 use Rattle.lookup_fetch.specs.Fetches.{Passed}
-use Rattle.mirror_rounds.specs.declared.told.Told.{Told}
-use Rattle.mirror_rounds.specs.declared.told.What.{What}
-use Rattle.mirror_rounds.specs.declared.told.What.TheVariants.{Clash}
-use Rattle.mirror_rounds.specs.declared.told.PushFault.{PushFault}
-use Rattle.mirror_rounds.specs.declared.told.PushFault.TheVariants.{LinkFault, BadReply, OutOfMemory}
-use Rattle.mirror_rounds.specs.Rounds.{Outcome, State, rounds, asks, batch, count_of, paired, settled, told_as}
-use Rattle.mirror_rounds.specs.Pushes.{PushesFrom}
+use Rattle.type_mirror.specs.declared.told.told.Told.{Told}
+use Rattle.type_mirror.specs.declared.told.told.What.{What}
+use Rattle.type_mirror.specs.declared.told.told.What.TheVariants.{Clash}
+use Rattle.type_mirror.specs.declared.told.told.PushFault.{PushFault}
+use Rattle.type_mirror.specs.declared.told.told.PushFault.TheVariants.{LinkFault, BadReply, OutOfMemory}
+use Rattle.type_mirror.specs.told.Rounds.{Outcome, State, rounds, asks, batch, count_of, paired, settled, told_as}
+use Rattle.type_mirror.specs.told.Pushes.{PushesFrom}
 
 -- ---- faults
 

@@ -2,11 +2,13 @@
 //! and pairs of sides that hand each other their objects.
 #![tactic(auto)]
 
+pub mod pairs;
 mod pushes;
 mod replies;
 mod requests;
 mod rounds;
+pub mod told;
 
-pub use mirror_pairs::{Gave, Give, Pair, Side, pairs_agree};
-pub use mirror_rounds::{PushFault, Told, What, pushes_tell};
+pub use crate::pairs::{Gave, Give, Pair, Side, pairs_agree};
+pub use crate::told::{PushFault, Told, What, pushes_tell};
 pub use pushes::push;

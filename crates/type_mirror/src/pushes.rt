@@ -1,13 +1,13 @@
 //! The push of objects over a link.
 ghost use Rattle.std.specs.Prelude.{◌≡◌, ◌≤◌, ◌<◌, ◌+◌, ◌^◌, length, drop, IfOk};
 ghost use Rattle.std.specs.List.{All};
-ghost use Rattle.mirror_rounds.specs.Pushes.{IsOwn, MayPush, PushesOver, HasPushCause};
+ghost use Rattle.type_mirror.specs.told.Pushes.{IsOwn, MayPush, PushesOver, HasPushCause};
 ghost use Rattle.type_mirror.specs.Steps.{telling, GoesOver};
 
 use crate::rounds::{put, tell};
-use lookup_messages::Fetched;
-use mirror_rounds::{PushFault, Told};
+use crate::told::{PushFault, Told};
 use std::alloc::Global;
+use type_lookup::messages::Fetched;
 use type_registry::Naming;
 use xt_io::Link;
 use xt_lists::Row;

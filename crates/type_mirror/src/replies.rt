@@ -3,12 +3,12 @@ ghost use Rattle.std.specs.Prelude.{◌≡◌, length, IfOk};
 ghost use Rattle.object_formats.specs.Tables.{object_of};
 ghost use Rattle.type_object.specs.Names.{named_by};
 ghost use Rattle.lookup_fetch.specs.Rounds.{is_object as is_object_read};
-ghost use Rattle.mirror_rounds.specs.Rounds.{outcomes_of, are_outcomes as are_outcomes_of, clash_of, clash_in as clash_in_objects, is_other as is_other_object};
+ghost use Rattle.type_mirror.specs.told.Rounds.{outcomes_of, are_outcomes as are_outcomes_of, clash_of, clash_in as clash_in_objects, is_other as is_other_object};
 ghost use Rattle.type_mirror.specs.Steps.{Says};
 
-use lookup_messages::{Fetched, Message};
-use mirror_rounds::PushFault;
+use crate::told::PushFault;
 use std::alloc::Global;
+use type_lookup::messages::{Fetched, Message};
 use type_object::{ObjectFault, kind_of, read_object};
 use type_registry::Naming;
 use type_trees::HashId;

@@ -1,13 +1,13 @@
 //! The requests of a push.
 ghost use Rattle.std.specs.Prelude.{◌≡◌, ◌≤◌, ◌∷◌, [], length, map, IfOk};
 ghost use Rattle.std.specs.List.{All};
-ghost use Rattle.lookup_messages.specs.declared.messages.Message.TheVariants.{PutTypes, GetTypes};
-ghost use Rattle.lookup_messages.specs.Spelling.{HasFrame, HasHash, IsKnownId, all_octets, object_octets};
-ghost use Rattle.mirror_rounds.specs.Rounds.{count_of as count_of_next, octets_of};
+ghost use Rattle.type_lookup.specs.declared.messages.messages.Message.TheVariants.{PutTypes, GetTypes};
+ghost use Rattle.type_lookup.specs.messages.Spelling.{HasFrame, HasHash, IsKnownId, all_octets, object_octets};
+ghost use Rattle.type_mirror.specs.told.Rounds.{count_of as count_of_next, octets_of};
 ghost use Rattle.type_mirror.specs.Objects.{IsShort};
 
-use lookup_messages::{Fetched, Message};
 use std::alloc::Global;
+use type_lookup::messages::{Fetched, Message};
 use type_trees::HashId;
 use xt_lists::{OutOfMemory, Row, Text};
 

@@ -1,18 +1,18 @@
 //! The rounds of a push over a link: one request and its reply each.
 ghost use Rattle.std.specs.Prelude.{◌≡◌, ◌≤◌, ◌<◌, ◌+◌, ◌^◌, length, IfOk};
 ghost use Rattle.std.specs.List.{All};
-ghost use Rattle.lookup_messages.specs.Spelling.{HasFrame, IsKnownId};
+ghost use Rattle.type_lookup.specs.messages.Spelling.{HasFrame, IsKnownId};
 ghost use Rattle.lookup_fetch.specs.Steps.{ExchangesOver};
-ghost use Rattle.mirror_rounds.specs.Rounds.{what_of as what_of_outcome, count_of as count_of_next};
-ghost use Rattle.mirror_rounds.specs.Pushes.{HasPushCause};
+ghost use Rattle.type_mirror.specs.told.Rounds.{what_of as what_of_outcome, count_of as count_of_next};
+ghost use Rattle.type_mirror.specs.told.Pushes.{HasPushCause};
 ghost use Rattle.type_mirror.specs.Steps.{as_fetch, PutsNext, GetsOther, Settles, TellsAll};
 ghost use Rattle.type_mirror.specs.Objects.{IsShort};
 
 use crate::replies::{clash_in, outcomes_in};
 use crate::requests::{count_of, get_request, put_request};
-use lookup_messages::{Fetched, Message};
-use mirror_rounds::{PushFault, Told, What};
+use crate::told::{PushFault, Told, What};
 use std::alloc::Global;
+use type_lookup::messages::{Fetched, Message};
 use type_lookup::{read_frame, write_frame};
 use type_registry::Naming;
 use xt_io::Link;

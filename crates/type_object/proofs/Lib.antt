@@ -1,3 +1,4 @@
+pub mod OfVisits
 pub mod Founds
 pub mod Noted
 pub mod Added

@@ -1,3 +1,4 @@
+pub mod visits
 pub mod Names
 pub mod Pools
 pub mod References

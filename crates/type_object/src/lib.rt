@@ -5,6 +5,7 @@ mod entry;
 mod gathering;
 mod identifiers;
 mod pool;
+pub mod visits;
 
 pub use gathering::references;
 pub use identifiers::{hash_of, kind_of, named};

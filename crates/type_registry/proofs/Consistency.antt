@@ -5,7 +5,7 @@ use Rattle.std.proofs.lemmas.List.{map-append, length-map}
 use Rattle.std.proofs.str.Laws.{order}
 use Rattle.type_trees.specs.declared.types.HashId.{HashId}
 use Rattle.cell_core.specs.Probes.{place, probe_at, IsProbed}
-use Rattle.cell_notes.specs.Facts.{Has, AgreeOn}
+use Rattle.type_registry.specs.notes.Facts.{Has, AgreeOn}
 use Rattle.type_registry.specs.Held.{Held, held, IsNamed}
 use Rattle.type_registry.specs.Walked.{MetNext, Walk, IsPath}
 use Rattle.type_registry.specs.Found.{Found, held_of, found_of, shown_by, Consistent, IsFinding}

@@ -1,3 +1,4 @@
+pub mod OfNotes
 pub mod Keyed
 pub mod Trails
 pub mod Consistency

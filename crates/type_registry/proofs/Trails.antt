@@ -2,7 +2,7 @@
 use Rattle.std.proofs.Common.{◌≡◌, ◌≢◌, ℕ, zero, suc, ◌+◌, ◌<◌, List, [], ◌∷◌, ◌++◌, length, inl, inr, refl, sym, subst, arith, map}
 use Rattle.std.specs.Prelude.{Some, slice_get}
 use Rattle.type_trees.specs.declared.types.HashId.{HashId}
-use Rattle.cell_notes.specs.Facts.{Has}
+use Rattle.type_registry.specs.notes.Facts.{Has}
 use Rattle.type_registry.specs.Held.{Held}
 use Rattle.type_registry.specs.Walked.{IsStep, Walked, Strangers, MetNext, Walk, IsPath, walk_past}
 use Rattle.type_registry.specs.Found.{held_of}

@@ -1,3 +1,4 @@
+pub mod notes
 pub mod Keys
 pub mod Held
 pub mod Walked

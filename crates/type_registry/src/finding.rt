@@ -6,8 +6,8 @@ ghost use Rattle.type_registry.specs.Found.{IsFinding, found_of};
 use crate::entry::Entry;
 use crate::level::Level;
 use crate::naming::Naming;
+use crate::notes::Knowledge;
 use crate::path::{Met, Path};
-use cell_notes::Knowledge;
 use std::marker::Model;
 use type_trees::HashId;
 

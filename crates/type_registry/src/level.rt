@@ -3,7 +3,7 @@ ghost use Rattle.type_registry.specs.Held.{Reads};
 
 use crate::entry::Entry;
 use crate::naming::Naming;
-use cell_notes::Knowledge;
+use crate::notes::Knowledge;
 use once_cell::race::OnceBox;
 use std::alloc::Global;
 use std::marker::Model;

@@ -10,6 +10,7 @@ mod finding;
 mod kept;
 mod level;
 mod naming;
+pub mod notes;
 mod pass;
 mod path;
 mod register;

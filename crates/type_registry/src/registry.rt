@@ -3,8 +3,8 @@ ghost use Rattle.type_registry.specs.Held.{Reads};
 
 use crate::level::Level;
 use crate::naming::Naming;
+use crate::notes::Knowledge;
 use cell_core::level_cells;
-use cell_notes::Knowledge;
 use once_cell::race::OnceBox;
 use std::alloc::Global;
 use std::marker::Model;

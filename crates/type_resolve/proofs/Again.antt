@@ -3,7 +3,7 @@ use Rattle.std.proofs.Common.{◌≡◌, ◌+◌, [], sym, ap, ◌∙◌, le_ref
 use Rattle.std.specs.Prelude.{None, Ok, true}
 use Rattle.type_trees.specs.declared.types.HashId.{HashId}
 use Rattle.type_trees.specs.Trees.{Tree}
-use Rattle.type_sizes.specs.TypeNodes.{nodes}
+use Rattle.type_trees.specs.sizes.TypeNodes.{nodes}
 use Rattle.type_rules.specs.Valid.{type_fault}
 use Rattle.type_rules.proofs.Kept.{limits_kept}
 use Rattle.object_formats.specs.Objects as o

@@ -9,7 +9,7 @@ use Rattle.type_trees.specs.declared.types.Base.{Base}
 use Rattle.type_trees.specs.declared.types.Flag.{Flag}
 use Rattle.type_trees.specs.Trees.{MemberHead, CaseHead, StructHead, UnionHead, Tree, prim, str, enumeration, bitmask, sequence, array, map_of, structure, union, alias, Members, no_members, member, Cases, no_cases, one_case}
 use Rattle.type_trees.specs.View.{members_of, cases_of}
-use Rattle.type_sizes.specs.TypeNodes.{nodes, member_nodes, case_nodes}
+use Rattle.type_trees.specs.sizes.TypeNodes.{nodes, member_nodes, case_nodes}
 use Rattle.type_rules.specs.Places.{depth, members_depth, cases_depth}
 use Rattle.object_formats.specs.Objects as o
 use Rattle.object_formats.specs.Objects.{Identifier, MemberPart, CasePart, Object}

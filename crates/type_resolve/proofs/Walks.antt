@@ -24,7 +24,7 @@ use Rattle.object_walks.specs.Resolving.{Stop, Got, Walk, ◌>>=◌, follow, pre
 use Rattle.type_resolve.specs.Objects.{own, between, type_flags, struct_object, layer_object}
 use Rattle.type_resolve.specs.Held.{IsIn}
 use Rattle.type_resolve.proofs.Back.{type_says}
-use Rattle.type_sizes.specs.TypeNodes.{nodes}
+use Rattle.type_trees.specs.sizes.TypeNodes.{nodes}
 use Rattle.type_resolve.proofs.Weights.{weigh, weight, total}
 
 -- ---- identifiers that a place stands in

@@ -12,12 +12,12 @@ ghost use Rattle.type_resolve.specs.Views.{sides, hashes_seen};
 
 use crate::sides::Identifiers;
 use indexmap::IndexMap;
-use same_types::same_type;
 use std::alloc::Global;
 use std::marker::Model;
 use std::mem;
 use type_object::{Pool, PoolFault};
 use type_trees::{HashId, XType};
+use type_values::same::same_type;
 use xt_lists::{OutOfMemory, Text};
 
 /// A type whose objects were all added, with its identifiers.

@@ -8,7 +8,7 @@ use Rattle.xt_shapes.specs.Shape.{heads, case_heads}
 use Rattle.xt_shapes.specs.Weight.{weight}
 use Rattle.type_trees.specs.Trees.{Tree, prim, str, enumeration, bitmask, sequence, array, map_of, structure, union, alias, Members, no_members, member, Cases, no_cases, one_case}
 use Rattle.type_trees.specs.Bridge.{literal_shape, flag_shape, shape, member_shapes, case_shapes}
-use Rattle.type_sizes.specs.TypeNodes.{nodes}
+use Rattle.type_trees.specs.sizes.TypeNodes.{nodes}
 use Rattle.node_rules.specs.Rules.{bases_fit}
 use Rattle.node_rules.specs.Table.{enum_names, mask_names, struct_names, union_names, failing, rules_at, first_broken}
 use Rattle.type_rules.specs.Places.{depth}

@@ -1,3 +1,4 @@
+pub mod OfFaultless
 pub mod FaultSteps
 pub mod FaultLoops
 pub mod DeepSteps

@@ -4,7 +4,7 @@ use Rattle.xt_shapes.specs.NodeRules.{rules_hold}
 use Rattle.xt_shapes.specs.Weight.{weight}
 use Rattle.type_trees.specs.Trees.{Tree}
 use Rattle.type_trees.specs.Bridge.{shape}
-use Rattle.type_sizes.specs.TypeNodes.{nodes}
+use Rattle.type_trees.specs.sizes.TypeNodes.{nodes}
 use Rattle.type_rules.specs.Places.{depth}
 use Rattle.type_rules.specs.Valid.{type_fault}
 

@@ -1,3 +1,4 @@
+pub mod faultless
 pub mod Places
 pub mod Valid
 pub mod Faults

@@ -6,7 +6,7 @@ use Rattle.xt_shapes.specs.Lists.{or_else}
 use Rattle.xt_shapes.specs.Weight.{weight}
 use Rattle.type_trees.specs.Trees.{Tree, Members, Cases}
 use Rattle.type_trees.specs.Bridge.{shape}
-use Rattle.type_sizes.specs.TypeNodes.{nodes}
+use Rattle.type_trees.specs.sizes.TypeNodes.{nodes}
 use Rattle.node_rules.specs.Table.{failing}
 use Rattle.type_rules.specs.Places.{Place, places, inside, member_places, case_places}
 

@@ -2,6 +2,7 @@
 #![tactic(auto)]
 
 mod depths;
+pub mod faultless;
 mod laws;
 mod validity;
 

@@ -7,7 +7,7 @@ ghost use Rattle.type_trees.specs.View.{tree, members_tree, cases_tree};
 
 use crate::depths::first_deep;
 use node_rules::failing_rule;
-use type_sizes::{capped_nodes, capped_weight};
+use type_trees::sizes::{capped_nodes, capped_weight};
 use type_trees::{Case, Member, Path, XType};
 use xt_shapes::Step;
 

@@ -1,3 +1,4 @@
+pub mod OfSizes
 pub mod Views
 pub mod Shapes
 pub mod Steps

@@ -1,3 +1,5 @@
+pub mod samples
+pub mod sizes
 pub mod Trees
 pub mod View
 pub mod Hash

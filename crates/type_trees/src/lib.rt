@@ -8,6 +8,8 @@ mod ids;
 mod kinds;
 mod names;
 mod path;
+pub mod samples;
+pub mod sizes;
 mod types;
 mod values;
 

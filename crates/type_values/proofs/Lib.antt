@@ -1,3 +1,4 @@
+pub mod OfSame
 pub mod Powers
 pub mod Parts
 pub mod SlotSteps

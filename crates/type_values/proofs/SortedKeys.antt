@@ -6,7 +6,7 @@ use Rattle.std.specs.Ordering.{int_cmp, nat_cmp, is_eq}
 use Rattle.xt_shapes.specs.Lists.{has}
 use Rattle.xt_shapes.specs.Typing.{same_key, repeats}
 use Rattle.xt_shapes.specs.Vals.{Val, int, text}
-use Rattle.distinct_items.specs.Repeats.{repeats_by}
+use Rattle.node_rules.specs.distinct.Repeats.{repeats_by}
 use Rattle.type_values.specs.KeyLists.{and_number, and_text, number_keys, text_keys}
 
 -- ---- keys by kind

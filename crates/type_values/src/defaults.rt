@@ -6,7 +6,7 @@ ghost use Rattle.type_trees.specs.Bridge.{type_shape, members_shape, cases_shape
 ghost use Rattle.type_trees.specs.View.{val, vals, body_val, slots_val, union_val};
 
 use std::alloc::Global;
-use type_sizes::elements_of;
+use type_trees::sizes::elements_of;
 use type_trees::{ArrayType, Case, Literal, Member, Slot, UnionValue, Value, XType};
 use xt_lists::{OutOfMemory, Row, Text};
 

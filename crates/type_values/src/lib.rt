@@ -6,6 +6,7 @@ mod copies;
 mod defaults;
 mod keys;
 mod numbers;
+pub mod same;
 mod sorted_keys;
 mod typed;
 mod value_copies;

@@ -3,11 +3,11 @@ ghost use Rattle.std.specs.Prelude.{◌≡◌, map, IfOk};
 ghost use Rattle.std.specs.Ordering.{is_eq};
 ghost use Rattle.xt_shapes.specs.Typing as spec;
 ghost use Rattle.type_trees.specs.View.{pair_val};
-ghost use Rattle.distinct_items.specs.Repeats.{repeats_by};
+ghost use Rattle.node_rules.specs.distinct.Repeats.{repeats_by};
 ghost use Rattle.type_values.specs.KeyLists.{number_keys, text_keys};
 
 use crate::keys::{repeats_in_any_order, rises};
-use distinct_items::has_same_next;
+use node_rules::distinct::has_same_next;
 use std::alloc::Global;
 use type_trees::{Pair, Value};
 use xt_lists::OutOfMemory;

@@ -8,7 +8,7 @@ ghost use Rattle.type_trees.specs.View.{val, body_val, pair_val, slots_val};
 use crate::keys::repeats;
 use crate::numbers::{fits_bits, is_past, is_text_within};
 use node_rules::{has_literal, is_of_prim};
-use type_sizes::elements_of;
+use type_trees::sizes::elements_of;
 use type_trees::{Case, MapType, Member, Pair, Slot, Value, XType, select};
 
 #[cycle(has_type)]

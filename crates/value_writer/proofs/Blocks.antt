@@ -7,9 +7,9 @@ use Rattle.std.proofs.Math.Seq.{take-append-add}
 use Rattle.std.proofs.lemmas.List.{take-append-drop, take-append-le, length-take-le}
 use Rattle.std.proofs.lemmas.Slice.{take-put_mid}
 use Rattle.std.specs.Int.{bytes_low_first}
-use Rattle.wire_numbers.specs.Units.{IsUnit}
-use Rattle.wire_numbers.proofs.UnitSteps.{unit_small}
-use Rattle.wire_writer.proofs.NumberSteps.{low_front, low_rest}
+use Rattle.xt_wire.specs.numbers.Units.{IsUnit}
+use Rattle.xt_wire.proofs.OfNumbers.UnitSteps.{unit_small}
+use Rattle.xt_wire.proofs.OfWriter.NumberSteps.{low_front, low_rest}
 use borrow.Rule.Slice.PartMut.{put_mid}
 
 pub number_added : (count size width k : ℕ) (xs ys : List ℕ) → size ≤ width → count ≤ length xs → length ys ≡ width → take (count + size) (put_mid count k xs ys) ≡ take count xs ++ take size ys

@@ -5,7 +5,7 @@ use Rattle.std.proofs.lemmas.Bool.{cases_lt}
 use Rattle.xt_shapes.specs.declared.leaves.Order.{Order}
 use Rattle.xcdr_model.specs.FixedSpelling.{Fixed, nothing, number_fixed, then_fixed, headed_fixed}
 use Rattle.xcdr_model.specs.Numbers.{padding}
-use Rattle.wire_writer.proofs.Puts.{length-number}
+use Rattle.xt_wire.proofs.OfWriter.Puts.{length-number}
 use Rattle.value_writer.specs.Places.{end_of, number_end}
 
 pub length_then : (f g : Fixed) (p : ℕ) → length (then_fixed f g p) ≡ length (f p) + length (g (p + length (f p)))

@@ -8,9 +8,9 @@ use Rattle.type_trees.specs.declared.values.Value.{Value}
 use Rattle.type_trees.specs.View.{val}
 use Rattle.xcdr_model.specs.FixedSpelling.{number_fixed, then_fixed}
 use Rattle.xcdr_model.specs.Numbers.{octets, padding, raw}
-use Rattle.wire_numbers.specs.Units.{IsUnit}
-use Rattle.wire_writer.specs.Writing.{padding_fixed}
-use Rattle.wire_writer.proofs.NumberSteps.{length-octets}
+use Rattle.xt_wire.specs.numbers.Units.{IsUnit}
+use Rattle.xt_wire.specs.writer.Writing.{padding_fixed}
+use Rattle.xt_wire.proofs.OfWriter.NumberSteps.{length-octets}
 use Rattle.value_writer.specs.Places.{end_of, run_end}
 use Rattle.value_writer.specs.Runs.{run_fixed, digits_of}
 

@@ -1,8 +1,8 @@
 -- A block of octets that were not yet written.
 use Rattle.std.specs.Prelude.{◌≡◌, ℕ, ◌≤◌, List, ◌++◌, length, Result, Ok, Err}
 use Rattle.xt_outside.specs.declared.octets.Failed.{Failed}
-use Rattle.wire_writer.specs.Written.{Written}
-use Rattle.wire_writer.specs.Writing.{Puts}
+use Rattle.xt_wire.specs.writer.Written.{Written}
+use Rattle.xt_wire.specs.writer.Writing.{Puts}
 
 -- what is left in it, with room for another number
 abbrev pub IsLeft : List ℕ → List ℕ → Result (Unit {0}) Failed → Type 0

@@ -1,14 +1,14 @@
 //! A block of octets on the stack.
 ghost use Rattle.std.specs.Prelude.{◌≡◌, ◌≤◌, ◌++◌, [], ◌∷◌, length, nat_lt, take};
 ghost use Rattle.xcdr_model.specs.Numbers.{octets, low_octets};
-ghost use Rattle.wire_numbers.specs.Units.{IsUnit};
+ghost use Rattle.xt_wire.specs.numbers.Units.{IsUnit};
 ghost use Rattle.value_writer.specs.Flushing.{Flushes};
 
 use byteorder::{ByteOrder, LittleEndian};
 use std::marker::Model;
-use wire_writer::{Writer, octets_of};
 use xt_outside::{Failed, Sink};
 use xt_shapes::Order;
+use xt_wire::writer::{Writer, octets_of};
 
 const SIZE: usize = 512;
 

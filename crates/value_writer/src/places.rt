@@ -1,9 +1,9 @@
 //! Where octets end that are written from a place on, without writing them.
 ghost use Rattle.std.specs.Prelude.{◌≡◌, ◌<◌, ◌+◌, min};
-ghost use Rattle.wire_numbers.specs.Units.{IsUnit};
+ghost use Rattle.xt_wire.specs.numbers.Units.{IsUnit};
 ghost use Rattle.value_writer.specs.Places.{number_end, run_end};
 
-use wire_numbers::padding;
+use xt_wire::numbers::padding;
 
 /// A place past the end of every sample, and of all whose octets a count of 32 bits can count. Each end that is this far or farther is
 /// answered as this.

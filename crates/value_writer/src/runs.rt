@@ -1,16 +1,16 @@
 //! Lists of numbers, gathered into blocks so that a sink is called once a block.
 ghost use Rattle.std.specs.Prelude.{◌≡◌, map};
 ghost use Rattle.type_trees.specs.View.{val};
-ghost use Rattle.wire_numbers.specs.Units.{IsUnit};
-ghost use Rattle.wire_writer.specs.Writing.{Puts};
+ghost use Rattle.xt_wire.specs.numbers.Units.{IsUnit};
+ghost use Rattle.xt_wire.specs.writer.Writing.{Puts};
 ghost use Rattle.value_writer.specs.Runs.{run_fixed, digits_of};
 
 use crate::block::{Block, make_room};
 use crate::values::number_in;
 use type_trees::Value;
-use wire_writer::{Writer, raw};
 use xt_outside::{Failed, Sink};
 use xt_shapes::Order;
+use xt_wire::writer::{Writer, raw};
 
 // The order and the size are known where a call of this is compiled, or looked at for each number.
 #[inline(always)]

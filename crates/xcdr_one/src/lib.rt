@@ -4,4 +4,4 @@
 
 pub use xcdr_reader::decode1;
 pub use xcdr_samples::read_sample1;
-pub use xcdr_written::{encode1, size1, write_sample1};
+pub use xcdr_writer::written::{encode1, size1, write_sample1};

@@ -13,12 +13,12 @@ use Rattle.xcdr_model.specs.Projection.{Part, Body, no_body, one_sided, settled_
 use Rattle.xcdr_model.specs.Reading.{Spot, Reading, fault_at, ◌>>=◌, filling}
 use Rattle.xcdr_model.specs.Xcdr1Reading.{at_end_of, case_read, read_case1}
 use Rattle.xcdr_model.specs.Xcdr2Reading.{read, read_case, done, scalar_at}
-use Rattle.wire_cursor.specs.Standing.{Standing, Stands}
-use Rattle.wire_cursor.specs.Decoding.{spot}
-use Rattle.wire_cursor.proofs.Ahead.{Ahead, begins, rephrased, ended_is}
-use Rattle.reading_steps.specs.declared.choices.Choice.{Choice}
-use Rattle.reading_steps.specs.declared.choices.Choice.TheVariants.{NoCase, OneSided, Missing, Case}
-use Rattle.reading_steps.specs.Cases.{case_index, indexed, choice_with, choice_of, choice}
+use Rattle.xt_wire.specs.cursor.Standing.{Standing, Stands}
+use Rattle.xt_wire.specs.cursor.Decoding.{spot}
+use Rattle.xt_wire.proofs.OfCursor.Ahead.{Ahead, begins, rephrased, ended_is}
+use Rattle.xcdr_steps.specs.declared.reading.choices.Choice.{Choice}
+use Rattle.xcdr_steps.specs.declared.reading.choices.Choice.TheVariants.{NoCase, OneSided, Missing, Case}
+use Rattle.xcdr_steps.specs.reading.Cases.{case_index, indexed, choice_with, choice_of, choice}
 use Rattle.xcdr_reader.specs.declared.modes.Mode.{Mode}
 use Rattle.xcdr_reader.specs.declared.modes.Mode.TheVariants.{Two, Inner, Tail}
 use Rattle.xcdr_reader.specs.Modes.{read_in, most, fills, to_end}

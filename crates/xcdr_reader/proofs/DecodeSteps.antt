@@ -16,11 +16,11 @@ use Rattle.settled_parts.specs.Gathering.{Gathered, none_yet}
 use Rattle.settled_parts.specs.Items.{items_then, and_item}
 use Rattle.settled_parts.specs.Entries.{entries_then, and_entry}
 use Rattle.settled_parts.specs.Members.{and_slot, structure_of}
-use Rattle.wire_cursor.specs.Standing.{Standing}
-use Rattle.wire_cursor.specs.Decoding.{spot}
-use Rattle.wire_cursor.proofs.Ahead.{Ahead, begins, rephrased}
-use Rattle.reading_steps.specs.Counts.{counted}
-use Rattle.reading_steps.proofs.ByIndex.{next_shape, none_left}
+use Rattle.xt_wire.specs.cursor.Standing.{Standing}
+use Rattle.xt_wire.specs.cursor.Decoding.{spot}
+use Rattle.xt_wire.proofs.OfCursor.Ahead.{Ahead, begins, rephrased}
+use Rattle.xcdr_steps.specs.reading.Counts.{counted}
+use Rattle.xcdr_steps.proofs.OfReading.ByIndex.{next_shape, none_left}
 use Rattle.xcdr_reader.specs.declared.modes.Mode.{Mode}
 use Rattle.xcdr_reader.specs.declared.comings.Coming.{Coming}
 use Rattle.xcdr_reader.specs.declared.comings.Coming.TheVariants.{Absent, Here, Content}

@@ -19,9 +19,9 @@ use Rattle.xcdr_model.specs.Xcdr1Reading.{read1}
 use Rattle.xcdr_model.specs.Xcdr2Reading.{read, done, scalar_at}
 use Rattle.settled_parts.specs.Gathering.{Gathered, none_yet}
 use Rattle.settled_parts.specs.Items.{items_then, and_item}
-use Rattle.wire_cursor.specs.Standing.{Standing, Stands, Stayed, room, pad_of}
-use Rattle.wire_cursor.specs.Decoding.{spot, after}
-use Rattle.wire_cursor.proofs.Ahead.{Ahead, begins, rephrased, room_is, within_trans}
+use Rattle.xt_wire.specs.cursor.Standing.{Standing, Stands, Stayed, room, pad_of}
+use Rattle.xt_wire.specs.cursor.Decoding.{spot, after}
+use Rattle.xt_wire.proofs.OfCursor.Ahead.{Ahead, begins, rephrased, room_is, within_trans}
 use Rattle.xcdr_reader.specs.declared.modes.Mode.{Mode}
 use Rattle.xcdr_reader.specs.declared.modes.Mode.TheVariants.{Two, Inner, Tail}
 use Rattle.xcdr_reader.specs.Modes.{read_in, most}

@@ -11,7 +11,7 @@ use Rattle.type_trees.specs.Bridge.{type_shape, members_shape, member_head, case
 use Rattle.type_trees.proofs.Views.{member_tree_is, case_tree_is}
 use Rattle.xcdr_model.specs.Premises.{distinct_members, sound, sound_members, sound_cases}
 use Rattle.settled_parts.specs.Members.{at_index}
-use Rattle.reading_steps.specs.Indices.{index_of}
+use Rattle.xcdr_steps.specs.reading.Indices.{index_of}
 use Rattle.xcdr_reader.specs.declared.modes.Mode.{Mode}
 use Rattle.xcdr_reader.specs.Modes.{content_in}
 use Rattle.xcdr_reader.specs.Members.{named_in}

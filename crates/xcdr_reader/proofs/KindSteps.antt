@@ -10,10 +10,10 @@ use Rattle.type_trees.specs.Bridge.{shape, type_shape, members_shape, cases_shap
 use Rattle.type_trees.proofs.Views.{struct_tree_is, union_tree_is}
 use Rattle.xcdr_model.specs.Premises.{sound, sound_members, sound_cases, distinct_members, some_member}
 use Rattle.xcdr_model.specs.Projection.{is_mutable}
-use Rattle.wire_cursor.specs.declared.faults.DecodeFault.{DecodeFault}
-use Rattle.wire_cursor.specs.Standing.{Standing}
-use Rattle.wire_cursor.specs.Decoding.{Decodes}
-use Rattle.wire_cursor.proofs.Ahead.{decodes_as}
+use Rattle.xt_wire.specs.declared.cursor.faults.DecodeFault.{DecodeFault}
+use Rattle.xt_wire.specs.cursor.Standing.{Standing}
+use Rattle.xt_wire.specs.cursor.Decoding.{Decodes}
+use Rattle.xt_wire.proofs.OfCursor.Ahead.{decodes_as}
 use Rattle.settled_parts.specs.declared.part.Part.{Part}
 use Rattle.settled_parts.specs.Parts.{part_of}
 use Rattle.xcdr_reader.specs.declared.modes.Mode.{Mode}

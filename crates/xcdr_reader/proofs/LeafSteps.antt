@@ -7,7 +7,7 @@ use Rattle.xt_shapes.specs.Select.{is_literal}
 use Rattle.xt_shapes.specs.Vals.{int}
 use Rattle.xt_shapes.specs.Shape.{Shape, Literal, Flag, prim, str, enumeration, bitmask, sequence, array, map_of, structure, union}
 use Rattle.xcdr_model.specs.declared.malformed.Why.TheVariants.{Short}
-use Rattle.wire_cursor.specs.declared.faults.DecodeFault.TheVariants.{Malformed}
+use Rattle.xt_wire.specs.declared.cursor.faults.DecodeFault.TheVariants.{Malformed}
 use Rattle.xcdr_model.specs.Reading.{Spot, fault_at}
 use Rattle.xcdr_model.specs.Projection.{got, failed, gather_text}
 use Rattle.xcdr_model.specs.Xcdr1Reading.{read1}
@@ -15,11 +15,11 @@ use Rattle.xcdr_model.specs.Xcdr2Reading.{read, done, scalar_at, text_at}
 use Rattle.xcdr_reader.specs.declared.modes.Mode.{Mode}
 use Rattle.xcdr_reader.specs.declared.modes.Mode.TheVariants.{Two, Inner, Tail}
 use Rattle.xcdr_reader.specs.Modes.{read_in, most}
-use Rattle.wire_cursor.specs.declared.faults.DecodeFault.{DecodeFault}
-use Rattle.wire_cursor.specs.Standing.{Standing, Stands}
-use Rattle.wire_cursor.specs.Decoding.{Decodes}
-use Rattle.wire_cursor.proofs.Ahead.{begins, malformed, decodes_as}
-use Rattle.wire_scalars.specs.Scalars.{enum_at, mask_at}
+use Rattle.xt_wire.specs.declared.cursor.faults.DecodeFault.{DecodeFault}
+use Rattle.xt_wire.specs.cursor.Standing.{Standing, Stands}
+use Rattle.xt_wire.specs.cursor.Decoding.{Decodes}
+use Rattle.xt_wire.proofs.OfCursor.Ahead.{begins, malformed, decodes_as}
+use Rattle.xcdr_steps.specs.scalars.Scalars.{enum_at, mask_at}
 
 -- what has no parts, in each mode
 pub enum_read : (m : Mode) (e : Ext) (bits : ℕ) (ls : List Literal) (o : Order) (s : Spot) → read_in m o (enumeration e bits ls) s ≡ done (λ i. (cond (is_literal ls i) (got (int i)) failed, false)) (scalar_at (most m) o (enumeration e bits ls) s)

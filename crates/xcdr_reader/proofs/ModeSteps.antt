@@ -7,10 +7,10 @@ use Rattle.xcdr_model.specs.Reading.{Spot, Reading, ◌>>=◌, step}
 use Rattle.xt_shapes.specs.Shape.{Members}
 use Rattle.xcdr_model.specs.Projection.{Part}
 use Rattle.xcdr_model.specs.Xcdr1Reading.{at_end_of}
-use Rattle.wire_cursor.specs.Standing.{Standing, Stands, room}
-use Rattle.wire_cursor.specs.Decoding.{spot}
-use Rattle.wire_cursor.specs.Steps.{pass_at}
-use Rattle.wire_cursor.proofs.Ahead.{Ahead, begins, rephrased, room_is}
+use Rattle.xt_wire.specs.cursor.Standing.{Standing, Stands, room}
+use Rattle.xt_wire.specs.cursor.Decoding.{spot}
+use Rattle.xt_wire.specs.cursor.Steps.{pass_at}
+use Rattle.xt_wire.proofs.OfCursor.Ahead.{Ahead, begins, rephrased, room_is}
 use Rattle.xcdr_reader.specs.declared.modes.Mode.{Mode}
 use Rattle.xcdr_reader.specs.declared.modes.Mode.TheVariants.{Two, Inner, Tail}
 use Rattle.xcdr_reader.specs.Modes.{to_end}

@@ -10,8 +10,8 @@ use Rattle.xcdr_model.specs.Projection.{Part}
 use Rattle.xcdr_model.specs.Reading.{Spot, Reading, fault_at, ◌>>=◌, step, front}
 use Rattle.xcdr_model.specs.Xcdr1Reading.{Mark, mark_at, is_no_id, named, checked_id, sized_at, read1, is_open, content_read, optional1_at}
 use Rattle.xcdr_model.specs.Xcdr2Reading.{Piece, read, present_at, one_part, optional_at}
-use Rattle.xcdr_one_steps.specs.Marks.{placed_mark}
-use Rattle.xcdr_one_steps.specs.Own.{named as is_named, own_checked}
+use Rattle.xcdr_steps.specs.one.Marks.{placed_mark}
+use Rattle.xcdr_steps.specs.one.Own.{named as is_named, own_checked}
 use Rattle.xcdr_reader.specs.declared.modes.Mode.{Mode}
 use Rattle.xcdr_reader.specs.declared.modes.Mode.TheVariants.{Two, Inner, Tail}
 use Rattle.xcdr_reader.specs.declared.comings.Coming.{Coming}

@@ -12,9 +12,9 @@ use Rattle.xcdr_model.specs.Projection.{Part, whole_structure, built_at}
 use Rattle.xcdr_model.specs.Xcdr1Reading.{Mark, block_at, mark_at, first_octets, short_mark, long_mark, is_end, is_ignored, is_no_id, sized_at, shifted, closed_by, content_read, is_open, Params, pass_on, and_one, one_param, params_at, fault_of, params_read, read1, read_named1}
 use Rattle.xcdr_model.specs.Xcdr2Reading.{done, Piece, Contents, content_of, contents}
 use Rattle.settled_parts.proofs.GatherSteps.{or_assoc, or_false}
-use Rattle.reading_steps.specs.Headings.{Told, Next, ended, ignored, told}
-use Rattle.xcdr_one_steps.specs.Marks.{placed_mark}
-use Rattle.xcdr_one_steps.specs.Parameters.{told_of, with_content, parameter_of, parameter_at}
+use Rattle.xcdr_steps.specs.reading.Headings.{Told, Next, ended, ignored, told}
+use Rattle.xcdr_steps.specs.one.Marks.{placed_mark}
+use Rattle.xcdr_steps.specs.one.Parameters.{told_of, with_content, parameter_of, parameter_at}
 use Rattle.xcdr_reader.specs.declared.modes.Mode.{Mode}
 use Rattle.xcdr_reader.specs.declared.modes.Mode.TheVariants.{Inner, Tail}
 use Rattle.xcdr_reader.specs.Modes.{parameter_content, content_in, next_in}

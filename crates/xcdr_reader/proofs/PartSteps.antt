@@ -5,14 +5,14 @@ use Rattle.xt_shapes.specs.Shape.{Shape}
 use Rattle.xcdr_model.specs.Premises.{sound}
 use Rattle.xcdr_model.specs.Reading.{Spot, Reading}
 use Rattle.xcdr_model.specs.Projection as model
-use Rattle.wire_cursor.specs.declared.cursor.Outer.{Outer}
-use Rattle.wire_cursor.specs.declared.faults.DecodeFault.{DecodeFault}
-use Rattle.wire_cursor.specs.declared.frames.Framing.{Framing}
-use Rattle.wire_cursor.specs.Standing.{Standing, Stands, room}
-use Rattle.wire_cursor.specs.Decoding.{Decodes, spot}
-use Rattle.wire_cursor.specs.Frames.{framed, Opened, OpenFails, Closes}
-use Rattle.wire_cursor.proofs.Ahead.{begins, last, rephrased, decodes_as, room_is}
-use Rattle.wire_cursor.proofs.Regions.{frame_unopened, frame_fails, frame_closes, frame_stops}
+use Rattle.xt_wire.specs.declared.cursor.cursor.Outer.{Outer}
+use Rattle.xt_wire.specs.declared.cursor.faults.DecodeFault.{DecodeFault}
+use Rattle.xt_wire.specs.declared.cursor.frames.Framing.{Framing}
+use Rattle.xt_wire.specs.cursor.Standing.{Standing, Stands, room}
+use Rattle.xt_wire.specs.cursor.Decoding.{Decodes, spot}
+use Rattle.xt_wire.specs.cursor.Frames.{framed, Opened, OpenFails, Closes}
+use Rattle.xt_wire.proofs.OfCursor.Ahead.{begins, last, rephrased, decodes_as, room_is}
+use Rattle.xt_wire.proofs.OfCursor.Regions.{frame_unopened, frame_fails, frame_closes, frame_stops}
 use Rattle.settled_parts.specs.declared.part.Part.{Part}
 use Rattle.settled_parts.specs.Parts.{part_of}
 use Rattle.xcdr_reader.specs.declared.modes.Mode.{Mode}

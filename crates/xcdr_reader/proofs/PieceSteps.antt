@@ -10,16 +10,16 @@ use Rattle.xcdr_model.specs.Projection.{Built, Part, built_at, any_unseen, slot_
 use Rattle.std.proofs.lemmas.Bool.{le-ltb}
 use Rattle.xcdr_model.specs.declared.malformed.Why.TheVariants.{Twice}
 use Rattle.xcdr_model.specs.Reading.{Spot, Reading, fault_at, ◌>>=◌}
-use Rattle.wire_cursor.specs.Steps.{pass_at}
-use Rattle.reading_steps.specs.declared.headings.Header.{Header}
+use Rattle.xt_wire.specs.cursor.Steps.{pass_at}
+use Rattle.xcdr_steps.specs.declared.reading.headings.Header.{Header}
 use Rattle.settled_parts.specs.Members.{by_member, so_far, have_come, and_slot_at, filled_of, at_index}
 use Rattle.settled_parts.proofs.StructureSteps.{comes, none_came, filled_whole, member_count}
 use Rattle.settled_parts.proofs.GatherSteps.{or_false}
-use Rattle.wire_cursor.specs.Standing.{Standing, Stands, room}
-use Rattle.wire_cursor.specs.Decoding.{spot}
-use Rattle.wire_cursor.proofs.Ahead.{Ahead, begins, rephrased, room_is}
-use Rattle.reading_steps.specs.Headings.{Told, Next, ended, ignored, told, header_view}
-use Rattle.reading_steps.specs.Indices.{index_of}
+use Rattle.xt_wire.specs.cursor.Standing.{Standing, Stands, room}
+use Rattle.xt_wire.specs.cursor.Decoding.{spot}
+use Rattle.xt_wire.proofs.OfCursor.Ahead.{Ahead, begins, rephrased, room_is}
+use Rattle.xcdr_steps.specs.reading.Headings.{Told, Next, ended, ignored, told, header_view}
+use Rattle.xcdr_steps.specs.reading.Indices.{index_of}
 use Rattle.xcdr_reader.specs.declared.modes.Mode.{Mode}
 use Rattle.xcdr_reader.specs.Modes.{content_in, next_in}
 use Rattle.xcdr_reader.specs.declared.known.Known.{Known}

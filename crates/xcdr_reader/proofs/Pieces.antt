@@ -10,8 +10,8 @@ use Rattle.xcdr_model.specs.Reading.{Spot, Reading, fault_at, ◌>>=◌, number_
 use Rattle.xcdr_model.specs.Projection.{Part, whole_structure, built_at}
 use Rattle.xcdr_model.specs.Xcdr2Reading.{read, read_named, done, Piece, Contents, piece_at, pieces_at, ends, and_more, content_of, contents, content_at, holder, members_at}
 use Rattle.settled_parts.proofs.GatherSteps.{or_assoc, or_false}
-use Rattle.reading_steps.specs.Headings.{Told, Next, ended, told}
-use Rattle.xcdr_two_steps.specs.Headers.{told_of, checked_header, header_at}
+use Rattle.xcdr_steps.specs.reading.Headings.{Told, Next, ended, told}
+use Rattle.xcdr_steps.specs.two.Headers.{told_of, checked_header, header_at}
 use Rattle.xcdr_reader.specs.declared.modes.Mode.TheVariants.{Two}
 use Rattle.xcdr_reader.specs.Members.{Pieces, Reader, named_in, piece_read, heading_read, if_piece, pieces_then, mutable_read}
 use Rattle.xcdr_reader.proofs.SeenIds.{Seen, seen_more}

@@ -11,9 +11,9 @@ use Rattle.xcdr_model.specs.Reading.{Spot, Reading, ◌>>=◌, number_at, each_a
 use Rattle.xcdr_model.specs.Projection.{Part, whole_items, whole_entries}
 use Rattle.xcdr_model.specs.Xcdr1Reading.{read1}
 use Rattle.xcdr_model.specs.Xcdr2Reading.{read, done, is_primitive, collection_at, counted_at}
-use Rattle.wire_cursor.specs.Frames.{framed}
+use Rattle.xt_wire.specs.cursor.Frames.{framed}
 use Rattle.xcdr_reader.specs.Parts.{items_read, entries_read, entry_at}
-use Rattle.xcdr_two_steps.specs.Bounds.{framing, collection_framing}
+use Rattle.xcdr_steps.specs.two.Bounds.{framing, collection_framing}
 use Rattle.xcdr_reader.specs.Members.{mutable_read}
 use Rattle.xcdr_reader.specs.declared.modes.Mode.{Mode}
 use Rattle.xcdr_reader.specs.declared.modes.Mode.TheVariants.{Two, Inner, Tail}

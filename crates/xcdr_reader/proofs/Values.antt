@@ -10,8 +10,8 @@ use Rattle.xcdr_model.specs.Reading.{Spot, Reading, fault_at, ◌>>=◌}
 use Rattle.xcdr_model.specs.Samples.{Outcome, outcome_of, union_whole}
 use Rattle.xcdr_model.specs.Xcdr1Reading.{read1}
 use Rattle.xcdr_model.specs.Xcdr2Reading.{read}
-use Rattle.wire_cursor.specs.Standing.{Standing}
-use Rattle.wire_cursor.proofs.Ahead.{Ahead, begins}
+use Rattle.xt_wire.specs.cursor.Standing.{Standing}
+use Rattle.xt_wire.proofs.OfCursor.Ahead.{Ahead, begins}
 use Rattle.xcdr_reader.specs.Bodies.{value_outcome, behind_union, value_end}
 use Rattle.xcdr_reader.specs.Modes.{read_in, mode_of}
 use Rattle.xcdr_reader.proofs.Gathering.{bind_bind, each_bind}

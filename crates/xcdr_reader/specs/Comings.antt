@@ -3,8 +3,8 @@ use Rattle.std.specs.Prelude.{ℕ, Bool, cond, ◌&&◌, ◌==◌, ◌≤◌, Ok
 use Rattle.xt_shapes.specs.declared.leaves.Order.{Order}
 use Rattle.xcdr_model.specs.Reading.{Spot, Reading, ◌>>=◌}
 use Rattle.xcdr_model.specs.Xcdr2Reading.{present_at}
-use Rattle.wire_cursor.specs.Standing.{Standing, room}
-use Rattle.xcdr_one_steps.specs.Own.{own_length}
+use Rattle.xt_wire.specs.cursor.Standing.{Standing, room}
+use Rattle.xcdr_steps.specs.one.Own.{own_length}
 use Rattle.xcdr_reader.specs.declared.modes.Mode.{Mode}
 use Rattle.xcdr_reader.specs.declared.modes.Mode.TheVariants.{Two, Inner, Tail}
 use Rattle.xcdr_reader.specs.declared.comings.Coming.{Coming}

@@ -10,12 +10,12 @@ use Rattle.settled_parts.specs.Parts.{part_of}
 use Rattle.xcdr_reader.specs.declared.known.Known.{Known}
 use Rattle.xcdr_reader.specs.declared.known.Piece.{Piece}
 use Rattle.xcdr_reader.specs.declared.known.Piece.TheVariants.{Unknown, Came}
-use Rattle.reading_steps.specs.declared.headings.Header.{Header}
-use Rattle.member_index.specs.Indexed.{IsIndexOf}
-use Rattle.wire_cursor.specs.declared.faults.DecodeFault.{DecodeFault}
-use Rattle.wire_cursor.specs.declared.faults.DecodeFault.TheVariants.{Malformed}
-use Rattle.reading_steps.specs.Headings.{Told, Next, ended, ignored, told}
-use Rattle.reading_steps.specs.Indices.{index_of}
+use Rattle.xcdr_steps.specs.declared.reading.headings.Header.{Header}
+use Rattle.xcdr_steps.specs.index.Indexed.{IsIndexOf}
+use Rattle.xt_wire.specs.declared.cursor.faults.DecodeFault.{DecodeFault}
+use Rattle.xt_wire.specs.declared.cursor.faults.DecodeFault.TheVariants.{Malformed}
+use Rattle.xcdr_steps.specs.reading.Headings.{Told, Next, ended, ignored, told}
+use Rattle.xcdr_steps.specs.reading.Indices.{index_of}
 use Rattle.xcdr_reader.specs.declared.modes.Mode.{Mode}
 use Rattle.xcdr_reader.specs.declared.modes.Mode.TheVariants.{Two, Inner, Tail}
 use Rattle.xcdr_reader.specs.Modes.{content_in, next_in}

@@ -8,13 +8,13 @@ use Rattle.xcdr_model.specs.Projection.{Part}
 use Rattle.xcdr_model.specs.Reading.{Spot, Reading, filling}
 use Rattle.xcdr_model.specs.Xcdr1Reading.{read1, is_open, at_end_of}
 use Rattle.xcdr_model.specs.Xcdr2Reading.{read}
-use Rattle.wire_cursor.specs.declared.frames.Framing.{Framing}
-use Rattle.wire_cursor.specs.declared.frames.Framing.TheVariants.{Open}
-use Rattle.reading_steps.specs.Headings.{Next}
-use Rattle.xcdr_one_steps.specs.Contents.{own_content}
-use Rattle.xcdr_one_steps.specs.Parameters.{parameter_at}
-use Rattle.xcdr_two_steps.specs.Bounds.{framing}
-use Rattle.xcdr_two_steps.specs.Headers.{next_at}
+use Rattle.xt_wire.specs.declared.cursor.frames.Framing.{Framing}
+use Rattle.xt_wire.specs.declared.cursor.frames.Framing.TheVariants.{Open}
+use Rattle.xcdr_steps.specs.reading.Headings.{Next}
+use Rattle.xcdr_steps.specs.one.Contents.{own_content}
+use Rattle.xcdr_steps.specs.one.Parameters.{parameter_at}
+use Rattle.xcdr_steps.specs.two.Bounds.{framing}
+use Rattle.xcdr_steps.specs.two.Headers.{next_at}
 use Rattle.xcdr_reader.specs.declared.modes.Mode.{Mode}
 use Rattle.xcdr_reader.specs.declared.modes.Mode.TheVariants.{Two, Inner, Tail}
 

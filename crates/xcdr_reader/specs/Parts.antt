@@ -11,7 +11,7 @@ use Rattle.xcdr_model.specs.Projection.{Part, Body, settled_case, slot_from, who
 use Rattle.xcdr_model.specs.Xcdr1Reading.{read_case1, case_read}
 use Rattle.xcdr_model.specs.Xcdr2Reading.{read_case, done, scalar_at, selected_at, rest_selected}
 use Rattle.settled_parts.specs.Members.{built_in, unseen_in, and_slot}
-use Rattle.reading_steps.specs.Counts.{counted}
+use Rattle.xcdr_steps.specs.reading.Counts.{counted}
 use Rattle.xcdr_reader.specs.declared.modes.Mode.{Mode}
 use Rattle.xcdr_reader.specs.declared.modes.Mode.TheVariants.{Two, Inner, Tail}
 use Rattle.xcdr_reader.specs.declared.comings.Coming.{Coming}

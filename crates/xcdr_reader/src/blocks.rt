@@ -8,8 +8,8 @@ ghost use Rattle.xt_shapes.specs.Shape as model;
 ghost use Rattle.xt_shapes.specs.Sizes as sizes;
 ghost use Rattle.settled_parts.specs.Items.{items_of};
 ghost use Rattle.settled_parts.specs.Parts.{part_of};
-ghost use Rattle.wire_cursor.specs.Decoding.{Decodes};
-ghost use Rattle.wire_cursor.specs.Standing.{Stayed};
+ghost use Rattle.xt_wire.specs.cursor.Decoding.{Decodes};
+ghost use Rattle.xt_wire.specs.cursor.Standing.{Stayed};
 ghost use Rattle.xcdr_reader.specs.Blocks.{IsBlock, number_part, and_numbers, block_read};
 ghost use Rattle.xcdr_reader.specs.Parts.{items_read};
 
@@ -18,10 +18,10 @@ use crate::modes::Mode;
 use settled_parts::{Items, Part};
 use std::alloc::Global;
 use type_trees::Elem;
-use wire_cursor::{Cursor, DecodeFault, read_octets};
-use wire_numbers::{is_boolean, number, prim_size, prim_value};
 use xt_lists::OutOfMemory;
 use xt_shapes::{Order, Prim};
+use xt_wire::cursor::{Cursor, DecodeFault, read_octets};
+use xt_wire::numbers::{is_boolean, number, prim_size, prim_value};
 
 // The octets that are read at once.
 const BLOCK: usize = 512;

@@ -3,8 +3,8 @@ ghost use Rattle.std.specs.Prelude.{◌≡◌, IfOk};
 ghost use Rattle.type_trees.specs.Bridge.{type_shape};
 ghost use Rattle.projection_laws.specs.Premises.{IsValid};
 ghost use Rattle.settled_parts.specs.Settling.{outcome_val};
-ghost use Rattle.wire_cursor.specs.Decoding.{Decodes};
-ghost use Rattle.wire_cursor.specs.Outcomes.{ComesTyped, ComesLight};
+ghost use Rattle.xt_wire.specs.cursor.Decoding.{Decodes};
+ghost use Rattle.xt_wire.specs.cursor.Outcomes.{ComesTyped, ComesLight};
 ghost use Rattle.xt_shapes.specs.declared.leaves.Rep.TheVariants.{Xcdr1, Xcdr2};
 ghost use Rattle.xcdr_reader.specs.Bodies.{value_outcome, nothing_left, behind_union, value_end};
 
@@ -14,9 +14,9 @@ use settled_parts::{Outcome, outcome};
 use std::alloc::Global;
 use type_rules::shape_keeps_rules;
 use type_trees::XType;
-use wire_cursor::{Cursor, DecodeFault};
 use xcdr_model::Why;
 use xt_shapes::Rep;
+use xt_wire::cursor::{Cursor, DecodeFault};
 
 // Where octets of the region are left the value is malformed (Trailing).
 fn end_region<C: Cursor>(cursor: &C) -> Result<(), DecodeFault>

@@ -1,13 +1,13 @@
 // What comes of a member that stands in declared order (DDS-XTypes 1.3, 7.4.1.1 and 7.4.3).
 ghost use Rattle.std.specs.Prelude.{IfOk};
-ghost use Rattle.wire_cursor.specs.Decoding.{Decodes};
+ghost use Rattle.xt_wire.specs.cursor.Decoding.{Decodes};
 ghost use Rattle.xcdr_reader.specs.Comings.{Fits, presence_read, own_read, optional_read, coming_read};
 
 use crate::modes::Mode;
-use reading_steps::has_ended;
-use wire_cursor::{Cursor, DecodeFault};
-use wire_scalars::read_presence;
-use xcdr_one_steps::read_own;
+use xcdr_steps::one::read_own;
+use xcdr_steps::reading::has_ended;
+use xcdr_steps::scalars::read_presence;
+use xt_wire::cursor::{Cursor, DecodeFault};
 
 /// What comes of a member.
 #[derive(Clone, Copy, Debug)]

@@ -11,9 +11,9 @@ ghost use Rattle.xcdr_model.specs.Xcdr2Reading.{read};
 ghost use Rattle.settled_parts.specs.Members.{by_member, slots_of};
 ghost use Rattle.settled_parts.specs.Parts.{part_of};
 ghost use Rattle.settled_parts.specs.Unions.{case_of};
-ghost use Rattle.wire_cursor.specs.Decoding.{Decodes};
-ghost use Rattle.wire_cursor.specs.Standing.{room};
-ghost use Rattle.reading_steps.specs.Headings.{header_view};
+ghost use Rattle.xt_wire.specs.cursor.Decoding.{Decodes};
+ghost use Rattle.xt_wire.specs.cursor.Standing.{room};
+ghost use Rattle.xcdr_steps.specs.reading.Headings.{header_view};
 ghost use Rattle.xcdr_reader.specs.Modes.{read_in, content_in, parameter_content, next_in};
 ghost use Rattle.xcdr_reader.specs.Members.{Pieces, Holds, no_more, mutable_read, next_piece, piece_read, named_in, piece_of, IsIndexed, IsNew, IsWithin, has_come};
 ghost use Rattle.xcdr_reader.specs.Parts.{items_read, entries_read, case_in, union_read, body_read, whole_read, slot_more};
@@ -27,18 +27,18 @@ use crate::leaves::{
     read_disc, read_enum_part, read_mask_part, read_prim_part, read_text_part, short, spare_of,
 };
 use crate::modes::Mode;
-use reading_steps::{Choice, Header, Heading, array_count, choose, has_ended, read_count};
 use settled_parts::{
     Entries, Items, Part, SettledCase, Slots, fits_disc, settle_case, slot_from, whole_union,
 };
 use std::alloc::Global;
 use type_trees::{Case, Elem, MapType, Member, StructType, UnionType, XType, as_prim};
-use wire_cursor::{
+use xcdr_steps::one::{close_content, open_content};
+use xcdr_steps::reading::{Choice, Header, Heading, array_count, choose, has_ended, read_count};
+use xt_shapes::Ext;
+use xt_wire::cursor::{
     Cursor, DecodeFault, Frame, Framing, close_frame, enter_part, open_frame, read_number,
     read_pass,
 };
-use xcdr_one_steps::{close_content, open_content};
-use xt_shapes::Ext;
 
 /// Reads a value of this type in the cursor's region.
 #[cycle(decode)]

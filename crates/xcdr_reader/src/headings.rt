@@ -1,15 +1,15 @@
 // What comes next among the members of a mutable structure, and what is left of a region (DDS-XTypes 1.3, 7.4.1.2 and 7.4.3.4).
 ghost use Rattle.std.specs.Prelude.{IfOk};
-ghost use Rattle.wire_cursor.specs.Decoding.{Decodes};
-ghost use Rattle.reading_steps.specs.Headings.{next_view, IsHeld};
+ghost use Rattle.xt_wire.specs.cursor.Decoding.{Decodes};
+ghost use Rattle.xcdr_steps.specs.reading.Headings.{next_view, IsHeld};
 ghost use Rattle.xcdr_model.specs.Xcdr1Reading.{at_end_of};
 ghost use Rattle.xcdr_reader.specs.Modes.{next_in, to_end};
 
 use crate::modes::Mode;
-use reading_steps::Heading;
-use wire_cursor::{Cursor, DecodeFault, read_pass};
-use xcdr_one_steps::read_parameter;
-use xcdr_two_steps::next_header;
+use xcdr_steps::one::read_parameter;
+use xcdr_steps::reading::Heading;
+use xcdr_steps::two::next_header;
+use xt_wire::cursor::{Cursor, DecodeFault, read_pass};
 
 /// Reads the next member's header, or what else stands there.
 pub(crate) fn next_heading<C: Cursor>(cursor: &mut C, mode: Mode) -> Result<Heading, DecodeFault>

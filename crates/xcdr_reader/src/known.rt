@@ -6,16 +6,16 @@ ghost use Rattle.xcdr_model.specs.Projection.{whole_structure};
 ghost use Rattle.settled_parts.specs.Members.{by_member};
 ghost use Rattle.settled_parts.specs.Parts.{part_of};
 ghost use Rattle.xcdr_reader.specs.Members.{Pieces, Holds, IsIndexed, IsNew, IsPlace, IsWithin, piece_of};
-ghost use Rattle.reading_steps.specs.Indices.{index_of};
+ghost use Rattle.xcdr_steps.specs.reading.Indices.{index_of};
 
-use member_index::MemberIndex;
-use reading_steps::{Header, find_member};
 use settled_parts::{MemberSlots, Part, slot_from};
 use std::alloc::Global;
 use type_trees::Member;
-use wire_cursor::DecodeFault;
 use xcdr_model::Why;
+use xcdr_steps::index::MemberIndex;
+use xcdr_steps::reading::{Header, find_member};
 use xt_lists::OutOfMemory;
+use xt_wire::cursor::DecodeFault;
 
 /// How many members are gone through one by one.
 const FEW: usize = 16;

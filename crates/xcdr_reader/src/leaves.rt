@@ -5,21 +5,21 @@ ghost use Rattle.xt_shapes.specs.Kinds.{is_number};
 ghost use Rattle.xt_shapes.specs.Shape as model;
 ghost use Rattle.xcdr_model.specs.Xcdr2Reading.{scalar_at};
 ghost use Rattle.xcdr_model.specs.Xcdr1Reading.{is_open};
-ghost use Rattle.xcdr_one_steps.specs.Contents.{spare};
+ghost use Rattle.xcdr_steps.specs.one.Contents.{spare};
 ghost use Rattle.xcdr_reader.specs.Modes.{read_in, most};
 ghost use Rattle.settled_parts.specs.Parts.{part_of};
-ghost use Rattle.wire_cursor.specs.Decoding.{Decodes};
-ghost use Rattle.wire_cursor.specs.declared.faults.DecodeFault.TheVariants.{Malformed};
+ghost use Rattle.xt_wire.specs.cursor.Decoding.{Decodes};
+ghost use Rattle.xt_wire.specs.declared.cursor.faults.DecodeFault.TheVariants.{Malformed};
 ghost use Rattle.xcdr_model.specs.declared.malformed.Why.TheVariants.{Short};
 
 use crate::modes::Mode;
 use settled_parts::{Part, enum_part, text_from};
 use std::alloc::Global;
 use type_trees::{EnumType, MaskType, XType};
-use wire_cursor::{Cursor, DecodeFault};
-use wire_scalars::{read_enum, read_mask, read_prim, read_text};
 use xcdr_model::Why;
+use xcdr_steps::scalars::{read_enum, read_mask, read_prim, read_text};
 use xt_shapes::{Ext, Prim};
+use xt_wire::cursor::{Cursor, DecodeFault};
 
 #[inline(always)]
 pub(crate) fn read_prim_part<C: Cursor>(

@@ -1,13 +1,13 @@
 // How values are read: in XCDR2, or in XCDR1 as inner values or tails (DDS-XTypes 1.3, 7.4.1 and 7.4.3).
 ghost use Rattle.std.specs.Prelude.{◌≡◌, ◌&&◌};
-ghost use Rattle.wire_numbers.specs.Units.{IsUnit};
+ghost use Rattle.xt_wire.specs.numbers.Units.{IsUnit};
 ghost use Rattle.type_trees.specs.Bridge.{type_shape};
 ghost use Rattle.xcdr_reader.specs.Modes as spec;
 
 use type_trees::XType;
-use wire_cursor::Framing;
-use xcdr_two_steps::framing_of;
+use xcdr_steps::two::framing_of;
 use xt_shapes::Rep;
+use xt_wire::cursor::Framing;
 
 /// How a value is read.
 #[derive(Clone, Copy, Debug, PartialEq, Eq)]

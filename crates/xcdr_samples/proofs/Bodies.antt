@@ -10,12 +10,12 @@ use Rattle.xcdr_model.specs.Reading.{Spot, Reading, fault_at, ◌>>=◌}
 use Rattle.xcdr_model.specs.declared.malformed.Fault.{Fault}
 use Rattle.xcdr_model.specs.Samples.{Outcome, outcome_of, body_outcome, value_read, top_ext}
 use Rattle.shape_laws.specs.Readings.{BodyIsValue}
-use Rattle.wire_cursor.specs.declared.faults.DecodeFault.{DecodeFault}
-use Rattle.wire_cursor.specs.Standing.{Standing}
-use Rattle.wire_cursor.specs.Decoding.{Decodes}
-use Rattle.wire_cursor.proofs.Ahead.{decodes_as}
-use Rattle.sample_frames.specs.Frames.{whole_body, sample_at}
-use Rattle.sample_frames.proofs.Samples.{sample_is}
+use Rattle.xt_wire.specs.declared.cursor.faults.DecodeFault.{DecodeFault}
+use Rattle.xt_wire.specs.cursor.Standing.{Standing}
+use Rattle.xt_wire.specs.cursor.Decoding.{Decodes}
+use Rattle.xt_wire.proofs.OfCursor.Ahead.{decodes_as}
+use Rattle.xcdr_samples.specs.frames.Frames.{whole_body, sample_at}
+use Rattle.xcdr_samples.proofs.OfFrames.Samples.{sample_is}
 use Rattle.xcdr_reader.specs.Bodies.{value_outcome}
 use Rattle.xcdr_samples.specs.Samples.{sample_outcome}
 

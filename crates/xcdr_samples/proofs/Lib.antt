@@ -1,2 +1,3 @@
+pub mod OfFrames
 pub mod Bodies
 pub mod Outcomes

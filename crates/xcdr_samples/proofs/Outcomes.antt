@@ -10,11 +10,11 @@ use Rattle.xt_shapes.specs.Weight.{weight}
 use Rattle.xcdr_model.specs.declared.malformed.Fault.{Fault}
 use Rattle.xcdr_model.specs.Reading.{Spot, Reading}
 use Rattle.xcdr_model.specs.Samples.{Outcome, sample, discarded, must_understand, read_sample}
-use Rattle.wire_cursor.specs.Standing.{Standing, Stands}
-use Rattle.wire_cursor.specs.Decoding.{spot, Answers, Decodes}
-use Rattle.wire_cursor.specs.Outcomes.{IsTyped, IsLight, ComesTyped, ComesLight}
-use Rattle.wire_cursor.proofs.Ahead.{reads_ok, room_is}
-use Rattle.sample_frames.specs.Frames.{over_region}
+use Rattle.xt_wire.specs.cursor.Standing.{Standing, Stands}
+use Rattle.xt_wire.specs.cursor.Decoding.{spot, Answers, Decodes}
+use Rattle.xt_wire.specs.cursor.Outcomes.{IsTyped, IsLight, ComesTyped, ComesLight}
+use Rattle.xt_wire.proofs.OfCursor.Ahead.{reads_ok, room_is}
+use Rattle.xcdr_samples.specs.frames.Frames.{over_region}
 use Rattle.xcdr_samples.specs.Samples.{sample_outcome}
 
 abbrev outcome_in : Outcome → Reading Outcome → Outcome

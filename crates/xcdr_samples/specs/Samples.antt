@@ -4,7 +4,7 @@ use Rattle.xt_shapes.specs.declared.leaves.Rep.{Rep}
 use Rattle.xt_shapes.specs.Shape.{Shape}
 use Rattle.xcdr_model.specs.Reading.{Spot, Reading}
 use Rattle.xcdr_model.specs.Samples.{Outcome, read_sample}
-use Rattle.sample_frames.specs.Frames.{over_region}
+use Rattle.xcdr_samples.specs.frames.Frames.{over_region}
 
 -- The sample is all of the region's octets; its places are counted from the first of them.
 abbrev pub sample_outcome : Rep → Shape → Order → Spot → Reading Outcome

@@ -4,19 +4,19 @@ ghost use Rattle.xt_shapes.specs.declared.leaves.Rep.TheVariants.{Xcdr1, Xcdr2};
 ghost use Rattle.type_trees.specs.Bridge.{type_shape};
 ghost use Rattle.projection_laws.specs.Premises.{IsValid};
 ghost use Rattle.settled_parts.specs.Settling.{outcome_val};
-ghost use Rattle.wire_cursor.specs.Decoding.{Decodes};
-ghost use Rattle.wire_cursor.specs.Outcomes.{ComesTyped, ComesLight};
+ghost use Rattle.xt_wire.specs.cursor.Decoding.{Decodes};
+ghost use Rattle.xt_wire.specs.cursor.Outcomes.{ComesTyped, ComesLight};
 ghost use Rattle.xcdr_samples.specs.Samples.{sample_outcome};
 
-use sample_frames::{close_sample, open_sample};
+use crate::frames::{close_sample, open_sample};
 use settled_parts::Outcome;
 use std::alloc::Global;
 use type_rules::shape_keeps_rules;
 use type_trees::XType;
-use wire_cursor::{Cursor, DecodeFault};
-use wire_numbers::top_of;
 use xcdr_reader::decode_value;
 use xt_shapes::Rep;
+use xt_wire::cursor::{Cursor, DecodeFault};
+use xt_wire::numbers::top_of;
 
 /// Reads the sample that the cursor's region is, in that representation and by the reader's type alone (DDS-XTypes 1.3, 7.4.1, 7.4.2 and
 /// 7.6.3.1.2): the identifier's two octets, two of options, the body, and as many octets of padding as the low two bits of the last option

@@ -4,4 +4,4 @@
 
 pub use xcdr_reader::decode2;
 pub use xcdr_samples::read_sample2;
-pub use xcdr_written::{encode_value, encode2, size2, write_sample2};
+pub use xcdr_writer::written::{encode_value, encode2, size2, write_sample2};

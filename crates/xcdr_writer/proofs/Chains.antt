@@ -12,9 +12,9 @@ use Rattle.xt_shapes.specs.Vals.{Val, Slot, absent, present}
 use Rattle.xt_outside.specs.declared.octets.Failed.{Failed}
 use Rattle.xcdr_model.specs.FixedSpelling.{Fixed, nothing, number_fixed, then_fixed, headed_fixed, slot_fixed, piece_fixed, if_present_fixed, if_selected_fixed}
 use Rattle.xcdr_model.specs.Numbers.{octets}
-use Rattle.wire_writer.specs.Written.{Written}
-use Rattle.wire_writer.specs.Writing.{IsAt, Keeps, Put, Puts, PutsWithin}
-use Rattle.wire_writer.proofs.Puts.{Going, begins, goes_on, last, fails, ends, left_as, within, puts_nothing}
+use Rattle.xt_wire.specs.writer.Written.{Written}
+use Rattle.xt_wire.specs.writer.Writing.{IsAt, Keeps, Put, Puts, PutsWithin}
+use Rattle.xt_wire.proofs.OfWriter.Puts.{Going, begins, goes_on, last, fails, ends, left_as, within, puts_nothing}
 use Rattle.value_writer.specs.Places.{end_of}
 use Rattle.xcdr_writer.specs.Parts.{most_of, case_of, presence_fixed}
 use Rattle.xcdr_writer.proofs.SizeSteps.{padding_zero}

@@ -8,9 +8,9 @@ use Rattle.xt_shapes.specs.Shape.{Head}
 use Rattle.xt_outside.specs.declared.octets.Failed.{Failed}
 use Rattle.xcdr_model.specs.FixedSpelling.{Fixed, number_fixed, then_fixed, headed_fixed, param_fixed}
 use Rattle.xcdr_model.specs.Numbers.{padding}
-use Rattle.wire_writer.specs.Written.{Written}
-use Rattle.wire_writer.specs.Writing.{Puttable, Stuck, PutsWithin}
-use Rattle.wire_writer.proofs.Puts.{Going, Reaches, length-number}
+use Rattle.xt_wire.specs.writer.Written.{Written}
+use Rattle.xt_wire.specs.writer.Writing.{Puttable, Stuck, PutsWithin}
+use Rattle.xt_wire.proofs.OfWriter.Puts.{Going, Reaches, length-number}
 use Rattle.value_writer.specs.Places.{end_of}
 use Rattle.value_writer.proofs.Ends.{length_headed}
 use Rattle.xcdr_writer.specs.Parts.{most_of, is_bare, header_behind}

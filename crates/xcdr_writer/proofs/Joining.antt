@@ -3,8 +3,8 @@ use Rattle.std.proofs.Common.{◌≡◌, arith, Result, Ok, Err, OnOk, OnErr}
 use Rattle.xt_outside.specs.Outside.{AppendsAll, AppendsPrefix, HasCause}
 use Rattle.xt_outside.specs.declared.octets.Failed.{Failed}
 use Rattle.xcdr_model.specs.FixedSpelling.{Fixed}
-use Rattle.wire_writer.specs.Written.{Written}
-use Rattle.wire_writer.specs.Writing.{IsAt, Puts}
+use Rattle.xt_wire.specs.writer.Written.{Written}
+use Rattle.xt_wire.specs.writer.Writing.{IsAt, Puts}
 
 pub at_start : (w : Written) → w.place ≡ 0 → w.origin ≡ 0 → IsAt w 0
 unfolding IsAt

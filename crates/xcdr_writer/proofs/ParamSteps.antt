@@ -9,7 +9,7 @@ use Rattle.xt_shapes.specs.Vals.{Val, Slot, absent, present}
 use Rattle.xcdr_model.specs.FixedSpelling.{Fixed, then_fixed, header_fixed, param_fixed, end_fixed, slot_fixed1, if_present_fixed}
 use Rattle.xcdr_model.specs.Numbers.{octets, padding}
 use Rattle.xcdr_model.specs.Xcdr2Spelling.{bit}
-use Rattle.wire_writer.proofs.NumberSteps.{length-octets}
+use Rattle.xt_wire.proofs.OfWriter.NumberSteps.{length-octets}
 use Rattle.value_writer.specs.Places.{end_of, number_end}
 use Rattle.xcdr_writer.specs.Parts.{is_short, short_header, long_header, header_behind, param_header_end}
 

@@ -9,8 +9,8 @@ use Rattle.xt_outside.specs.declared.octets.Failed.{Failed}
 use Rattle.xcdr_model.specs.FixedSpelling.{fixed_of}
 use Rattle.xcdr_model.specs.Numbers.{padding}
 use Rattle.xcdr_model.specs.SampleSpelling.{sample_size, final_padding, identifier, fixed_sample}
-use Rattle.wire_writer.specs.Written.{Written}
-use Rattle.wire_writer.specs.Writing.{Puts, PutsWithin}
+use Rattle.xt_wire.specs.writer.Written.{Written}
+use Rattle.xt_wire.specs.writer.Writing.{Puts, PutsWithin}
 use Rattle.value_writer.specs.Places.{end_of}
 use Rattle.xcdr_writer.specs.Samples.{sized}
 use Rattle.xcdr_writer.proofs.Steady.{fixed_steady, length_most}

@@ -37,7 +37,7 @@ use Rattle.type_trees.specs.declared.values.Slot as values
 use Rattle.type_trees.specs.Bridge.{type_shape, members_shape, cases_shape, member_head, shape, literal_shape, flag_shape}
 use Rattle.type_trees.specs.View.{val, pair_val, slots_val}
 use Rattle.type_trees.proofs.Views.{member_tree_is, case_tree_is, pair_val_is, tree_prim, tree_str, tree_enum, tree_mask, tree_seq, tree_array, tree_map, tree_struct, tree_union, sequence_tree_is, array_tree_is, map_tree_is, struct_tree_is, union_tree_is}
-use Rattle.wire_writer.proofs.NumberSteps.{length-octets}
+use Rattle.xt_wire.proofs.OfWriter.NumberSteps.{length-octets}
 use Rattle.value_writer.specs.Places.{end_of, number_end}
 use Rattle.value_writer.specs.Runs.{run_fixed}
 use Rattle.value_writer.proofs.Ends.{end_of_then, end_of_number, end_of_headed, end_of_nothing, end_of_octets, end_of_same}

@@ -18,8 +18,8 @@ use Rattle.xcdr_writer.specs.Parts.{most_of, is_bare, is_short, slot_in, piece_i
 use Rattle.xcdr_writer.proofs.SizeSteps as steps
 use Rattle.xcdr_writer.proofs.SizeSteps.{piece_parts}
 use Rattle.xcdr_writer.proofs.ParamSteps.{length-param, length-end}
-use Rattle.wire_numbers.specs.Units.{IsSize}
-use Rattle.wire_writer.proofs.Puts.{length-number}
+use Rattle.xt_wire.specs.numbers.Units.{IsSize}
+use Rattle.xt_wire.proofs.OfWriter.Puts.{length-number}
 use Rattle.value_writer.proofs.Ends.{length_then, length_headed}
 
 -- f and g are one spelling in two byte orders

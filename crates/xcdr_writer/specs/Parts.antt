@@ -11,7 +11,7 @@ use Rattle.xt_shapes.specs.Vals.{Val, Slots, Slot}
 use Rattle.xcdr_model.specs.Numbers.{octets}
 use Rattle.xcdr_model.specs.Xcdr2Reading.{is_primitive}
 use Rattle.xcdr_model.specs.Xcdr2Spelling.{bit}
-use Rattle.wire_writer.specs.Writing.{padding_fixed}
+use Rattle.xt_wire.specs.writer.Writing.{padding_fixed}
 use Rattle.value_writer.specs.Places.{number_end}
 use Rattle.xcdr_model.specs.FixedSpelling.{Fixed, nothing, number_fixed, collection_fixed, counted_fixed, then_fixed, headed_fixed, each_fixed, scalar_fixed, slot_fixed, piece_fixed, code_of, if_selected_fixed, fixed_of, members_fixed, pieces_fixed, case_fixed, slot_fixed1, sent_fixed1, header_fixed, end_fixed, members_fixed1, params_fixed, case_fixed1}
 

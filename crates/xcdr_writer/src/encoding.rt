@@ -10,9 +10,9 @@ ghost use Rattle.xcdr_model.specs.FixedSpelling as size_of;
 ghost use Rattle.type_trees.specs.Bridge.{type_shape, members_shape, cases_shape, member_head};
 ghost use Rattle.type_trees.specs.Parts.{structure_parts, union_parts};
 ghost use Rattle.type_trees.specs.View.{val, pair_val, slots_val};
-ghost use Rattle.wire_writer.specs.Writing.{Puts, PutsWithin};
+ghost use Rattle.xt_wire.specs.writer.Writing.{Puts, PutsWithin};
 ghost use Rattle.value_writer.specs.Slots.{slot_of};
-ghost use Rattle.wire_numbers.specs.Units.{IsSize};
+ghost use Rattle.xt_wire.specs.numbers.Units.{IsSize};
 ghost use Rattle.xcdr_model.specs.Numbers as numbers;
 ghost use Rattle.xcdr_writer.specs.Parts as parts;
 ghost use Rattle.xcdr_writer.specs.Parts.{slot_in, piece_in, members_of, pieces_of, case_of, items_fixed, counted_items, entries_fixed, counted_entries, sequence_fixed, array_fixed, map_fixed, mutable_fixed, structure_fixed, selected_fixed, mutable_union, union_fixed, presence_fixed};
@@ -31,10 +31,10 @@ use type_trees::{
 use value_writer::{
     body_in, disc_in, entries_in, items_in, number_in, octets_in, put_run, slot_at, slots_in,
 };
-use wire_numbers::{enum_size, mask_size, prim_size, scalar_size};
-use wire_writer::{Writer, raw};
 use xt_outside::{Failed, Sink};
 use xt_shapes::{Ext, Rep};
+use xt_wire::numbers::{enum_size, mask_size, prim_size, scalar_size};
+use xt_wire::writer::{Writer, raw};
 
 /// A number of `size` octets: 1, 2, 4 or 8, or 0 for none.
 fn encode_number<K: Sink>(

@@ -25,8 +25,8 @@ use value_writer::{
     TOO_FAR, body_in, disc_in, end_of_number, end_of_octets, end_of_run, entries_in, items_in,
     octets_in, slot_at, slots_in,
 };
-use wire_numbers::{enum_size, mask_size, prim_size, scalar_size};
 use xt_shapes::{Ext, Rep};
+use xt_wire::numbers::{enum_size, mask_size, prim_size, scalar_size};
 
 fn end_of_scalar(rep: Rep, ty: &XType, place: u64) -> u64
     ensures { result ≡ number_end (parts.most_of rep) (size_of.scalar_size (type_shape ty.now)) place }

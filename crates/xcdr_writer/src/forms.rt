@@ -1,6 +1,6 @@
 //! What the two representations do differently.
 ghost use Rattle.std.specs.Prelude.{◌≡◌};
-ghost use Rattle.wire_numbers.specs.Units.{IsUnit};
+ghost use Rattle.xt_wire.specs.numbers.Units.{IsUnit};
 ghost use Rattle.xcdr_writer.specs.Parts as parts;
 
 use xt_shapes::Rep;

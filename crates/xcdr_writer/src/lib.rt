@@ -7,6 +7,7 @@ mod ends;
 mod forms;
 mod params;
 mod samples;
+pub mod written;
 
 pub use encoding::encode_value;
 pub use samples::{encode, size_of_sample, write_sample};

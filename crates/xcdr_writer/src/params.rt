@@ -3,13 +3,13 @@ ghost use Rattle.std.specs.Prelude.{◌≡◌, ◌+◌, ◌*◌, ◌^◌, ◌≤
 ghost use Rattle.xcdr_model.specs.FixedSpelling.{end_fixed, header_fixed};
 ghost use Rattle.xcdr_model.specs.Numbers.{octets};
 ghost use Rattle.xcdr_model.specs.Xcdr2Spelling.{bit};
-ghost use Rattle.wire_numbers.specs.Units.{IsUnit};
-ghost use Rattle.wire_writer.specs.Writing.{Puts};
+ghost use Rattle.xt_wire.specs.numbers.Units.{IsUnit};
+ghost use Rattle.xt_wire.specs.writer.Writing.{Puts};
 ghost use Rattle.xcdr_writer.specs.Parts.{short_header, long_header, header_behind};
 
 use crate::forms::is_short;
-use wire_writer::Writer;
 use xt_outside::{Failed, Sink};
+use xt_wire::writer::Writer;
 
 /// An id below the must_understand mark.
 fn marked(must: bool, mark: u64, id: u32) -> u64

@@ -8,16 +8,16 @@ ghost use Rattle.xcdr_model.specs.SampleSpelling.{sample_size, fixed_sample, fin
 ghost use Rattle.xcdr_model.specs.Samples.{row_of};
 ghost use Rattle.type_trees.specs.Bridge.{type_shape};
 ghost use Rattle.type_trees.specs.View.{val};
-ghost use Rattle.wire_writer.specs.Writing.{Puts};
+ghost use Rattle.xt_wire.specs.writer.Writing.{Puts};
 ghost use Rattle.xcdr_writer.specs.Samples.{sized};
 
 use crate::encoding::encode_value;
 use crate::ends::end_of_value;
 use type_trees::{Value, XType};
-use wire_numbers::top_of;
-use wire_writer::Writer;
 use xt_outside::{Failed, Sink, write_whole};
 use xt_shapes::{Ext, Order, Rep};
+use xt_wire::numbers::top_of;
+use xt_wire::writer::Writer;
 
 /// The number of octets of the whole sample of `value` in that representation, with its encapsulation and final padding; None exactly
 /// where they are more than 1,048,576. It takes no memory.

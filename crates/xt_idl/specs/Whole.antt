@@ -5,9 +5,9 @@ use Rattle.type_rules.specs.Valid.{type_fault}
 use Rattle.xt_annotations.specs.declared.notes.Placed.{Placed}
 use Rattle.idl_tokens.specs.declared.tokens.TokenKind.{TokenKind}
 use Rattle.idl_tokens.specs.Classes.{Text}
-use Rattle.idl_names.specs.declared.scopes.Meaning.{Meaning}
-use Rattle.idl_names.specs.declared.scopes.Meaning.TheVariants as meaning_of
-use Rattle.idl_names.specs.Scopes.{meaning}
+use Rattle.idl_tokens.specs.declared.names.scopes.Meaning.{Meaning}
+use Rattle.idl_tokens.specs.declared.names.scopes.Meaning.TheVariants as meaning_of
+use Rattle.idl_tokens.specs.names.Scopes.{meaning}
 use Rattle.idl_input.specs.declared.faults.IdlFault.{IdlFault}
 use Rattle.idl_input.specs.declared.faults.IdlFault.TheVariants as fault
 use Rattle.idl_input.specs.declared.words.Keyword.{Keyword}

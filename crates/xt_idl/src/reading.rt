@@ -12,8 +12,8 @@ use idl_definitions::{
     Made, bitmask_def, enum_def, settings_of, struct_def, typedef_def, union_def,
 };
 use idl_input::{Begins, DefinitionWord, IdlFault, Keyword, Tokens};
-use idl_names::Meaning;
 use idl_tokens::TokenKind;
+use idl_tokens::names::Meaning;
 use idl_types::Reader;
 use std::alloc::Global;
 use type_rules::{TypeFault, check_type};

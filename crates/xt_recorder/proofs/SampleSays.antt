@@ -7,11 +7,11 @@ use Rattle.xcdr_model.specs.declared.malformed.Fault.{Fault}
 use Rattle.xcdr_model.specs.declared.malformed.Why.{Why}
 use Rattle.xcdr_model.specs.Reading.{Spot}
 use Rattle.xcdr_model.specs.Samples.{Outcome, read_sample}
-use Rattle.wire_cursor.specs.declared.faults.DecodeFault.TheVariants.{Malformed}
-use Rattle.wire_cursor.specs.Standing.{Standing}
-use Rattle.wire_cursor.specs.Decoding.{spot, Answers, Decodes}
-use Rattle.wire_cursor.specs.Slices.{at_start}
-use Rattle.sample_frames.specs.Frames.{over_region}
+use Rattle.xt_wire.specs.declared.cursor.faults.DecodeFault.TheVariants.{Malformed}
+use Rattle.xt_wire.specs.cursor.Standing.{Standing}
+use Rattle.xt_wire.specs.cursor.Decoding.{spot, Answers, Decodes}
+use Rattle.xt_wire.specs.cursor.Slices.{at_start}
+use Rattle.xcdr_samples.specs.frames.Frames.{over_region}
 use Rattle.xcdr_samples.specs.Samples.{sample_outcome}
 
 said_ok : {T : Type 0} (view : T → Outcome) (q : Result Outcome Fault) (s : Spot) (a b : Standing) (xs : List ℕ) (x : T) → Answers view a b xs (over_region s q) (Ok x) → q ≡ Ok (view x)

@@ -3,7 +3,7 @@ use Rattle.std.specs.Prelude.{◌≡◌, Option, Some, None, Result, Ok, Err, if
 use Rattle.xt_shapes.specs.declared.leaves.Rep.{Rep}
 use Rattle.type_trees.specs.Trees.{Tree}
 use Rattle.type_trees.specs.Bridge.{shape}
-use Rattle.sample_types.specs.Tops.{is_top}
+use Rattle.type_trees.specs.samples.Tops.{is_top}
 use Rattle.type_object.specs.Pools.{Texts}
 use Rattle.object_walks.specs.Resolving.{Refusal, resolved}
 use Rattle.assignability.specs.Views.{verdict_view}

@@ -4,7 +4,7 @@ use Rattle.xt_shapes.specs.declared.leaves.Rep.{Rep}
 use Rattle.type_trees.specs.declared.types.HashId.{HashId}
 use Rattle.type_trees.specs.Trees.{Tree}
 use Rattle.type_trees.specs.Bridge.{shape}
-use Rattle.sample_types.specs.Tops.{is_top}
+use Rattle.type_trees.specs.samples.Tops.{is_top}
 use Rattle.xt_io.specs.declared.Item.{Item}
 use Rattle.xt_io.specs.declared.Kind.{Kind}
 use Rattle.xt_io.specs.declared.Kind.TheVariants.{Object, Sample, Idl, Json, Note}

@@ -3,7 +3,7 @@ ghost use Rattle.std.specs.Prelude.{◌≡◌, IfOk, IfErr, IfSome, OnErr, OnOk,
 ghost use Rattle.type_trees.specs.Bridge.{type_shape};
 ghost use Rattle.type_trees.specs.View.{tree};
 ghost use Rattle.projection_laws.specs.Premises.{IsValid};
-ghost use Rattle.sample_types.specs.Tops.{is_top};
+ghost use Rattle.type_trees.specs.samples.Tops.{is_top};
 ghost use Rattle.xt_recorder.specs.Replays as spec;
 ghost use Rattle.assignability.specs.Views.{verdict_view};
 ghost use Rattle.type_object.specs.Faults as pool_faults;
@@ -22,15 +22,15 @@ use crate::replayer::{Replayer, Stream};
 use crate::streams::stream_of;
 use assignability::{Verdict, judge};
 use object_walks::{ResolveFault, resolve};
-use sample_types::is_top;
 use std::alloc::Global;
 use type_object::{Pool, PoolFault};
 use type_rules::is_within_limits;
+use type_trees::samples::is_top;
 use type_trees::{HashId, XType};
-use wire_cursor::{DecodeFault, SliceCursor};
 use xcdr_samples::read_sample;
 use xt_io::{Item, Kind};
 use xt_shapes::Rep;
+use xt_wire::cursor::{DecodeFault, SliceCursor};
 
 fn is_yes(verdict: &Verdict) -> bool
     ensures { result ≡ spec.is_yes (verdict_view verdict.now) }

@@ -15,14 +15,14 @@ use Rattle.xcdr_model.specs.Failure.{First, first_failure}
 use Rattle.xcdr_model.specs.Samples.{Outcome}
 use Rattle.shape_laws.specs.Verdicts.{ExactlyOne, Judged}
 use Rattle.shape_laws.specs.Soundness.{CrossSample}
-use Rattle.tool_output.specs.declared.ending.Ending.TheVariants.{Done}
-use Rattle.tool_output.specs.declared.ending.Style.TheVariants as styles
-use Rattle.tool_output.specs.Outputs.{Output, Refusal, ◌>>=◌, unless_refused, finished, after_turn, run, run_over, taking}
-use Rattle.tool_front.specs.Fronts.{Front}
+use Rattle.tool_runs.specs.declared.output.ending.Ending.TheVariants.{Done}
+use Rattle.tool_runs.specs.declared.output.ending.Style.TheVariants as styles
+use Rattle.tool_runs.specs.output.Outputs.{Output, Refusal, ◌>>=◌, unless_refused, finished, after_turn, run, run_over, taking}
+use Rattle.tool_runs.specs.front.Fronts.{Front}
 use Rattle.tool_runs.specs.Commands.{body_behind}
 use Rattle.tool_types.specs.Types.{Declared}
 use Rattle.tool_words.specs.Words.{Command, Pair}
-use Rattle.tool_lines.specs.Lines.{judged, outcome_line, sample_line, unless_failed, read_turn}
+use Rattle.tool_samples.specs.lines.Lines.{judged, outcome_line, sample_line, unless_failed, read_turn}
 use Rattle.tool_verdicts.specs.Verdicts.{NamedAreValid, assignable}
 use Rattle.tool_commands.specs.Commands.{read_lines}
 use Rattle.xt_tool.specs.Output.{asked, output_of}

@@ -3,28 +3,28 @@ use Rattle.std.proofs.Common.{◌≡◌, ℕ, List, ◌++◌, inl, inr, refl, sy
 use Rattle.std.specs.declared.option.Option.{Option}
 use Rattle.std.specs.Io.KnownBytes.{Appends}
 use Rattle.xt_io.specs.Outside.{Rose, AppendsPrefix}
-use Rattle.tool_output.specs.declared.ending.Cause.{Cause}
-use Rattle.tool_output.specs.declared.ending.Cause.TheVariants as causes
-use Rattle.tool_output.specs.declared.ending.Ending.{Ending}
-use Rattle.tool_output.specs.declared.ending.Ending.TheVariants as endings
-use Rattle.tool_output.specs.declared.halt.Halt.TheVariants as halts
-use Rattle.tool_output.specs.Outputs.{Output, Refusal, refused}
+use Rattle.tool_runs.specs.declared.output.ending.Cause.{Cause}
+use Rattle.tool_runs.specs.declared.output.ending.Cause.TheVariants as causes
+use Rattle.tool_runs.specs.declared.output.ending.Ending.{Ending}
+use Rattle.tool_runs.specs.declared.output.ending.Ending.TheVariants as endings
+use Rattle.tool_runs.specs.declared.output.halt.Halt.TheVariants as halts
+use Rattle.tool_runs.specs.output.Outputs.{Output, Refusal, refused}
 use Rattle.type_object.specs.Names.{hash_of}
 use Rattle.type_object.specs.Pools.{Texts}
 use Rattle.type_trees.specs.declared.types.HashId.{HashId}
-use Rattle.lookup_messages.specs.declared.messages.Fetched.{Fetched}
+use Rattle.type_lookup.specs.declared.messages.messages.Fetched.{Fetched}
 use Rattle.lookup_fetch.specs.declared.faults.FetchFault.{FetchFault}
 use Rattle.lookup_fetch.specs.declared.faults.FetchFault.TheVariants as fetch
-use Rattle.mirror_rounds.specs.declared.told.Told.{Told}
-use Rattle.mirror_rounds.specs.declared.told.PushFault.{PushFault}
-use Rattle.mirror_rounds.specs.declared.told.PushFault.TheVariants as push
+use Rattle.type_mirror.specs.declared.told.told.Told.{Told}
+use Rattle.type_mirror.specs.declared.told.told.PushFault.{PushFault}
+use Rattle.type_mirror.specs.declared.told.told.PushFault.TheVariants as push
 use Rattle.tool_words.specs.Words as words
 use Rattle.tool_words.specs.Words.{NetCommand}
 use Rattle.tool_nets.specs.Nets.{Net, Fails, EndsIn}
 use Rattle.tool_nets.specs.Opened.{AllowedOf, IsFrontCause}
-use Rattle.tool_clients.specs.Lines.{fetch_output, push_output}
-use Rattle.tool_clients.specs.Clients.{FetchSaid, PushSaid, FetchAllows, PushAllows, objects_in}
-use Rattle.tool_serving.specs.Serving.{ServeAllows}
+use Rattle.tool_nets.specs.clients.Lines.{fetch_output, push_output}
+use Rattle.tool_nets.specs.clients.Clients.{FetchSaid, PushSaid, FetchAllows, PushAllows, objects_in}
+use Rattle.tool_nets.specs.serving.Serving.{ServeAllows}
 use Rattle.xt_tool.specs.declared.status.Status.{Status}
 use Rattle.xt_tool.specs.declared.status.Status.TheVariants as statuses
 use Rattle.xt_tool.specs.Nets.{Allowed, WritesIn}

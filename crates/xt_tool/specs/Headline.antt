@@ -14,15 +14,15 @@ use Rattle.xcdr_model.specs.Assignable.{Assignable}
 use Rattle.xcdr_model.specs.Failure.{first_failure}
 use Rattle.xcdr_model.specs.Samples.{projection}
 use Rattle.xcdr_model.specs.SampleSpelling.{IsSample}
-use Rattle.tool_output.specs.declared.ending.Ending.TheVariants as endings
-use Rattle.tool_output.specs.declared.ending.Ending.TheVariants.{Done}
-use Rattle.tool_output.specs.declared.ending.Cause.TheVariants.{No}
-use Rattle.tool_output.specs.Outputs.{Output, same_kind}
-use Rattle.tool_front.specs.Fronts.{Front, front_of}
+use Rattle.tool_runs.specs.declared.output.ending.Ending.TheVariants as endings
+use Rattle.tool_runs.specs.declared.output.ending.Ending.TheVariants.{Done}
+use Rattle.tool_runs.specs.declared.output.ending.Cause.TheVariants.{No}
+use Rattle.tool_runs.specs.output.Outputs.{Output, same_kind}
+use Rattle.tool_runs.specs.front.Fronts.{Front, front_of}
 use Rattle.tool_types.specs.Types.{Declared, declare}
-use Rattle.tool_names.specs.Names.{pair_named}
+use Rattle.tool_types.specs.names.Names.{pair_named}
 use Rattle.tool_words.specs.Words.{Pair, read, command_of}
-use Rattle.tool_lines.specs.Lines.{no_text, outcome_line, sample_line}
+use Rattle.tool_samples.specs.lines.Lines.{no_text, outcome_line, sample_line}
 use Rattle.xt_tool.specs.Output.{output_of}
 
 -- Each record is a sample or a Note.

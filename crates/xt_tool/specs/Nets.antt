@@ -3,14 +3,14 @@ use Rattle.std.specs.Prelude.{◌≡◌, ℕ, ◌⊎◌, List, Option, Some, Non
 use Rattle.std.specs.Io.KnownBytes.{Appends}
 use Rattle.xt_io.specs.Outside.{AppendsPrefix, Rose}
 use Rattle.type_object.specs.Names.{hash_of}
-use Rattle.tool_output.specs.declared.ending.Style.{Style}
-use Rattle.tool_output.specs.declared.ending.Style.TheVariants.{Lines, Records}
-use Rattle.tool_output.specs.Outputs.{Output, last_piece}
+use Rattle.tool_runs.specs.declared.output.ending.Style.{Style}
+use Rattle.tool_runs.specs.declared.output.ending.Style.TheVariants.{Lines, Records}
+use Rattle.tool_runs.specs.output.Outputs.{Output, last_piece}
 use Rattle.tool_words.specs.Words.{Command, NetCommand, serve, fetch, mirror, net_command_of}
 use Rattle.tool_nets.specs.Nets.{Net}
 use Rattle.tool_nets.specs.Opened.{Behind}
-use Rattle.tool_clients.specs.Clients.{FetchAllows, PushAllows, objects_in}
-use Rattle.tool_serving.specs.Serving.{ServeAllows}
+use Rattle.tool_nets.specs.clients.Clients.{FetchAllows, PushAllows, objects_in}
+use Rattle.tool_nets.specs.serving.Serving.{ServeAllows}
 use Rattle.xt_tool.specs.declared.status.Status.{Status}
 use Rattle.xt_tool.specs.declared.status.Status.TheVariants.{Done, No, Words, Bundle, ReadFault, WriteFault, OutOfMemory, Types, NoName, NetFault, Json, Fetch, Limit}
 use Rattle.xt_tool.specs.Output.{TakesInput}

@@ -1,16 +1,16 @@
 -- What the words and the octets of the input come to (this profile's own).
 use Rattle.std.specs.Prelude.{ℕ, List, Option, Some, None, codes}
 use Rattle.xt_io.specs.Bundles.{bundle}
-use Rattle.tool_output.specs.declared.ending.Cause.TheVariants.{Words as BadWords}
-use Rattle.tool_output.specs.declared.ending.Style.{Style}
-use Rattle.tool_output.specs.declared.ending.Style.TheVariants.{Lines, Records}
-use Rattle.tool_output.specs.Outputs.{Output, refused}
+use Rattle.tool_runs.specs.declared.output.ending.Cause.TheVariants.{Words as BadWords}
+use Rattle.tool_runs.specs.declared.output.ending.Style.{Style}
+use Rattle.tool_runs.specs.declared.output.ending.Style.TheVariants.{Lines, Records}
+use Rattle.tool_runs.specs.output.Outputs.{Output, refused}
 use Rattle.tool_runs.specs.Commands.{command_output, body_behind, ends_behind}
 use Rattle.tool_words.specs.Words.{Command, compile, judge, read, write, convert, show, wrap, instances, keep, replay, make, command_of}
 use Rattle.tool_commands.specs.Commands.{judge_lines, read_lines, convert_records, write_records, instances_lines, record_records, replay_lines}
 use Rattle.tool_commands.specs.Making.{made}
 use Rattle.tool_commands.specs.Wrapping.{wrapped}
-use Rattle.tool_listing.specs.Listing.{compile_records, show_lines}
+use Rattle.tool_commands.specs.listing.Listing.{compile_records, show_lines}
 
 -- ---- words
 

@@ -2,12 +2,12 @@
 use Rattle.std.specs.Prelude.{◌≡◌, ℕ, ◌⊎◌, List, Option, IfSome, codes}
 use Rattle.std.specs.Io.KnownBytes.{Appends}
 use Rattle.xt_io.specs.Outside.{AppendsPrefix, Rose}
-use Rattle.tool_output.specs.declared.ending.Cause.{Cause}
-use Rattle.tool_output.specs.declared.ending.Cause.TheVariants as causes
-use Rattle.tool_output.specs.declared.ending.Ending.{Ending}
-use Rattle.tool_output.specs.declared.ending.Ending.TheVariants as endings
-use Rattle.tool_output.specs.Outputs.{Output, last_piece, text_of}
-use Rattle.tool_output.specs.Runs.{CutPieces, WrotePieces}
+use Rattle.tool_runs.specs.declared.output.ending.Cause.{Cause}
+use Rattle.tool_runs.specs.declared.output.ending.Cause.TheVariants as causes
+use Rattle.tool_runs.specs.declared.output.ending.Ending.{Ending}
+use Rattle.tool_runs.specs.declared.output.ending.Ending.TheVariants as endings
+use Rattle.tool_runs.specs.output.Outputs.{Output, last_piece, text_of}
+use Rattle.tool_runs.specs.output.Runs.{CutPieces, WrotePieces}
 use Rattle.xt_tool.specs.Output.{output_of, style_of}
 use Rattle.xt_tool.specs.declared.status.Status.{Status}
 use Rattle.xt_tool.specs.declared.status.Status.TheVariants.{Done, No, Words, Bundle, ReadFault, WriteFault, OutOfMemory, Types, NoName, NetFault, Json, Fetch, Limit}

@@ -2,7 +2,7 @@
 ghost use Rattle.std.specs.Prelude.{◌≡◌, Ok};
 ghost use Rattle.std.specs.Io.KnownBytes.{IsAtEnd};
 ghost use Rattle.xt_io.specs.Outside.{Rose};
-ghost use Rattle.tool_output.specs.Runs.{Halts};
+ghost use Rattle.tool_runs.specs.output.Runs.{Halts};
 ghost use Rattle.tool_nets.specs.Nets.{EndsIn, net_of};
 ghost use Rattle.tool_words.specs.View.{net_view};
 ghost use Rattle.xt_tool.specs.Nets as spec;
@@ -12,9 +12,9 @@ use crate::answering::read_fault;
 use crate::status::{Status, status_of};
 use std::alloc::Global;
 use std::thread::Threads;
-use tool_clients::{fetch_from, mirror_to};
-use tool_output::{Ending, Halt, Style};
-use tool_serving::serve_at;
+use tool_nets::clients::{fetch_from, mirror_to};
+use tool_nets::serving::serve_at;
+use tool_runs::output::{Ending, Halt, Style};
 use tool_words::NetCommand;
 use xt_io::{Net, Sink, Source, write_whole};
 

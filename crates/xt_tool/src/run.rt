@@ -1,16 +1,16 @@
 ghost use Rattle.std.specs.Prelude.{◌≡◌, IfSome, Ok};
 ghost use Rattle.std.specs.Option.{option_map};
 ghost use Rattle.std.specs.Io.KnownBytes.{IsAtEnd};
-ghost use Rattle.tool_output.specs.Runs.{Ends, Halts, HaltsWriting, Writes};
+ghost use Rattle.tool_runs.specs.output.Runs.{Ends, Halts, HaltsWriting, Writes};
 ghost use Rattle.tool_words.specs.View.{command_view};
 ghost use Rattle.xt_tool.specs.Output.{asked, bad_words, of_command, TakesInput};
 
 use std::alloc::Global;
+use tool_commands::listing::{Compiling, Showing};
 use tool_commands::{
     Converting, Judging, Keeping, Reading, Recording, Replaying, Writing, make, wrap,
 };
-use tool_listing::{Compiling, Showing};
-use tool_output::{Cause, Ending, Halt, Refused, Style, last};
+use tool_runs::output::{Cause, Ending, Halt, Refused, Style, last};
 use tool_runs::{answer_command, body_command};
 use tool_words::Command;
 use xt_io::{Sink, Source};

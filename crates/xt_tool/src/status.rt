@@ -1,7 +1,7 @@
 ghost use Rattle.std.specs.Prelude.{◌≡◌};
 ghost use Rattle.xt_tool.specs.Statuses as spec;
 
-use tool_output::{Cause, Ending};
+use tool_runs::output::{Cause, Ending};
 
 /// How a run ended. Its number is the program's exit status.
 #[derive(Debug, Clone, Copy, PartialEq, Eq)]

@@ -6,9 +6,9 @@
 //! `weight` and `judge`, the rules at each node of the shape, those that speak of a type's own node, and that its parts are valid.
 #![tactic(auto)]
 
-pub use rule_laws::{each_part_is_valid, each_rule_holds};
+pub use type_rules::faultless::{each_part_is_valid, each_rule_holds};
 pub use type_rules::{TypeFault, check_type, is_within_limits, shape_keeps_rules};
-pub use type_sizes::weight;
+pub use type_trees::sizes::weight;
 pub use type_trees::{
     AliasType, ArrayType, Base, Case, Elem, EnumType, Flag, HashId, Literal, MapType, MaskType,
     Member, Name, Named, Pair, Path, SeqType, Slot, StructType, UnionType, UnionValue, Value,

@@ -9,11 +9,11 @@ use Rattle.xcdr_model.specs.Samples as samples
 use Rattle.xcdr_model.specs.Samples.{read_sample}
 use Rattle.settled_parts.specs.declared.settling.Outcome.{Outcome}
 use Rattle.settled_parts.specs.Settling.{outcome_val}
-use Rattle.wire_cursor.specs.declared.faults.DecodeFault.TheVariants as faults
-use Rattle.wire_cursor.specs.Decoding.{Answers, Decodes}
-use Rattle.wire_cursor.specs.Slices.{at_start}
-use Rattle.wire_cursor.specs.Standing.{Standing}
-use Rattle.sample_frames.specs.Frames.{over_region}
+use Rattle.xt_wire.specs.declared.cursor.faults.DecodeFault.TheVariants as faults
+use Rattle.xt_wire.specs.cursor.Decoding.{Answers, Decodes}
+use Rattle.xt_wire.specs.cursor.Slices.{at_start}
+use Rattle.xt_wire.specs.cursor.Standing.{Standing}
+use Rattle.xcdr_samples.specs.frames.Frames.{over_region}
 use Rattle.xcdr_samples.specs.Samples.{sample_outcome}
 use Rattle.xt_vectors.specs.declared.findings.Finding.TheVariants.{Malformed}
 use Rattle.xt_vectors.specs.Findings.{of_outcome, finding_of}

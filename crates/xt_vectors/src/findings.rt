@@ -15,12 +15,12 @@ use settled_parts::Outcome;
 use std::alloc::Global;
 use type_rules::{check_type, is_within_limits};
 use type_trees::XType;
-use wire_cursor::{DecodeFault, SliceCursor};
 use xcdr_samples::read_sample;
 use xcdr_writer::{size_of_sample, write_sample};
 use xt_lists::OutOfMemory;
 use xt_outside::MemSink;
 use xt_shapes::{Order, Rep};
+use xt_wire::cursor::{DecodeFault, SliceCursor};
 
 /// What was found of a pair: that the reader's type isn't assignable from the writer's, or what the sample is to the reader.
 #[derive(Debug, Clone, Copy)]

@@ -2,7 +2,13 @@
 //! crates below it have; their own pages say how each is defined and proved.
 #![tactic(auto)]
 
-pub use wire_cursor::{Cursor, CutFault, DecodeFault, Outer, SliceCursor};
-pub use wire_streams::StreamCursor;
-pub use wire_writer::Writer;
+pub mod cursor;
+pub mod numbers;
+pub mod seen;
+pub mod streams;
+pub mod writer;
+
+pub use crate::cursor::{Cursor, CutFault, DecodeFault, Outer, SliceCursor};
+pub use crate::streams::StreamCursor;
+pub use crate::writer::Writer;
 pub use xcdr_model::Why;

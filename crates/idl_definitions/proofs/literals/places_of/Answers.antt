@@ -1,5 +1,5 @@
 use Rattle.std.proofs.Common.{ap, ◌∙◌}
-use Rattle.idl_names.specs.Scopes.{meaning}
+use Rattle.idl_tokens.specs.names.Scopes.{meaning}
 use Rattle.idl_definitions.proofs.LiteralNames.{indexes_more}
 use Rattle.idl_definitions.proofs.literals.places_of.Goals as goal
 

@@ -1,5 +1,5 @@
 use Rattle.std.specs.List.{All}
-use Rattle.lookup_messages.specs.Spelling.{IsKnownId}
+use Rattle.type_lookup.specs.messages.Spelling.{IsKnownId}
 use Rattle.library_tests.proofs.fetches.strangers.Given as goal
 
 abbrev pub invariant-loop-number : goal.invariant-loop-number

@@ -1,5 +1,5 @@
 use Rattle.std.proofs.Common.{List, [], ◌∷◌, ◌++◌, ap, ◌∙◌}
-use Rattle.lookup_messages.specs.declared.messages.Fetched.{Fetched}
+use Rattle.type_lookup.specs.declared.messages.messages.Fetched.{Fetched}
 use Rattle.lookup_fetch.specs.Rounds.{is_object}
 use Rattle.type_mirror.proofs.Pushable.{alone, own_object}
 use Rattle.library_tests.proofs.objects.alone.Goals as goal

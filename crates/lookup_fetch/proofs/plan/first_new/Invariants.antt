@@ -1,6 +1,6 @@
 use Rattle.std.proofs.Common.{◌≡◌, length, not}
 use Rattle.type_object.specs.References.{is_among}
-use Rattle.object_visits.specs.Visits.{first_of}
+use Rattle.type_object.specs.visits.Visits.{first_of}
 use Rattle.lookup_fetch.proofs.plan.first_new.Given as goal
 
 abbrev pub invariant-tries : goal.invariant-tries

@@ -1,7 +1,7 @@
 use Rattle.std.proofs.Common.{◌∙◌, sym, ap, arith, rules, drop, not, length, length-append}
 use Rattle.type_trees.specs.declared.types.HashId.{HashId}
-use Rattle.object_visits.specs.Visits.{is_known}
-use Rattle.object_visits.proofs.Left.{left_past, left_more, left_full, left_all, next_item, past_end}
+use Rattle.type_object.specs.visits.Visits.{is_known}
+use Rattle.type_object.proofs.OfVisits.Left.{left_past, left_more, left_full, left_all, next_item, past_end}
 use Rattle.lookup_fetch.specs.Rounds.{found_in}
 use Rattle.lookup_fetch.proofs.plan.lacking.Goals as goal
 

@@ -1,5 +1,5 @@
 use Rattle.std.proofs.Common.{◌≡◌, ◌≤◌, ◌++◌, length, drop, filter, not}
-use Rattle.object_visits.specs.Visits.{is_known}
+use Rattle.type_object.specs.visits.Visits.{is_known}
 use Rattle.lookup_fetch.specs.Rounds.{found_in}
 use Rattle.lookup_fetch.proofs.plan.lacking.Given as goal
 

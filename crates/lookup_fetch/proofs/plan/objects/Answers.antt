@@ -1,7 +1,7 @@
 use Rattle.std.proofs.Common.{◌+◌, sym, ap, subst, arith, drop}
 use Rattle.std.specs.List.{All}
 use Rattle.std.proofs.lemmas.List.Elements.{All-nil}
-use Rattle.object_visits.proofs.Left.{next_item, past_end}
+use Rattle.type_object.proofs.OfVisits.Left.{next_item, past_end}
 use Rattle.lookup_fetch.specs.Plans.{IsOwn}
 use Rattle.lookup_fetch.specs.Rounds.{found_in}
 use Rattle.lookup_fetch.proofs.Reaching.{gathers_none, gathers_more, gathers_not, gathers_all, item_put, more_own}

@@ -3,7 +3,7 @@ use Rattle.std.specs.List.{All}
 use Rattle.std.proofs.lemmas.List.Elements.{All-nil}
 use Rattle.type_trees.specs.declared.types.HashId.{HashId}
 use Rattle.type_object.specs.References.{is_among}
-use Rattle.lookup_messages.specs.Spelling.{IsKnownId}
+use Rattle.type_lookup.specs.messages.Spelling.{IsKnownId}
 use Rattle.lookup_fetch.specs.Rounds.{found_in}
 use Rattle.lookup_fetch.proofs.Reaching.{reach_init, reach_step, reach_end, reach_full, first_each, put_each, more_each}
 use Rattle.lookup_fetch.proofs.plan.reached.Goals as goal

@@ -1,6 +1,6 @@
 use Rattle.std.proofs.Common.{◌≡◌, ◌≤◌, ◌-◌, length, []}
 use Rattle.std.specs.List.{All}
-use Rattle.lookup_messages.specs.Spelling.{IsKnownId}
+use Rattle.type_lookup.specs.messages.Spelling.{IsKnownId}
 use Rattle.lookup_fetch.specs.Rounds.{found_in}
 use Rattle.lookup_fetch.proofs.Reaching.{reaching}
 use Rattle.lookup_fetch.proofs.plan.reached.Given as goal

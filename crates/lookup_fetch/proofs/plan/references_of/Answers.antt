@@ -1,8 +1,8 @@
 use Rattle.std.proofs.Common.{◌∙◌, ap, sym, subst}
 use Rattle.std.specs.List.{All}
 use Rattle.std.proofs.lemmas.List.Elements.{All-nil}
-use Rattle.lookup_messages.specs.Spelling.{IsKnownId}
-use Rattle.object_visits.specs.Visits.{references_in}
+use Rattle.type_lookup.specs.messages.Spelling.{IsKnownId}
+use Rattle.type_object.specs.visits.Visits.{references_in}
 use Rattle.lookup_fetch.proofs.plan.references_of.Goals as goal
 
 pub returns-in_ok-references-in-Some-clause-refers : goal.returns-in_ok-references-in-Some-clause-refers

@@ -1,8 +1,8 @@
 use Rattle.std.proofs.Common.{◌∙◌, ◌+◌, ◌++◌, List, [], refl, sym, ap, subst, arith, map, take, drop, take_all, append-nil}
 use Rattle.std.proofs.lemmas.Result.{err_from_is_err_and}
 use Rattle.type_trees.specs.declared.types.HashId.{HashId}
-use Rattle.object_visits.proofs.Left.{past_end}
-use Rattle.lookup_messages.specs.declared.messages.Fetched.{Fetched}
+use Rattle.type_object.proofs.OfVisits.Left.{past_end}
+use Rattle.type_lookup.specs.declared.messages.messages.Fetched.{Fetched}
 use Rattle.lookup_fetch.specs.Rounds.{fault_in, text_of}
 use Rattle.lookup_fetch.specs.Taking.{AreNew}
 use Rattle.lookup_fetch.proofs.TakingIn.{fault_then, new_still, new_among, next_object, fault_here, fault_next, fault_all, held_next}

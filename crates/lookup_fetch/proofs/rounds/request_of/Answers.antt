@@ -3,7 +3,7 @@ use Rattle.std.specs.List.{All}
 use Rattle.std.proofs.lemmas.List.{length-take}
 use Rattle.std.proofs.lemmas.List.Elements.{All-take}
 use Rattle.type_trees.specs.declared.types.HashId.{HashId}
-use Rattle.lookup_messages.specs.Spelling.{IsKnownId}
+use Rattle.type_lookup.specs.messages.Spelling.{IsKnownId}
 use Rattle.lookup_fetch.proofs.Asking.{gets_frame}
 use Rattle.lookup_fetch.proofs.rounds.request_of.Goals as goal
 

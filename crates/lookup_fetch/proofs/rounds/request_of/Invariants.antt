@@ -1,6 +1,6 @@
 use Rattle.std.proofs.Common.{◌≡◌, take}
 use Rattle.std.specs.List.{All}
-use Rattle.lookup_messages.specs.Spelling.{HasHash}
+use Rattle.type_lookup.specs.messages.Spelling.{HasHash}
 use Rattle.lookup_fetch.proofs.rounds.request_of.Given as goal
 
 abbrev pub invariant-asked : goal.invariant-asked

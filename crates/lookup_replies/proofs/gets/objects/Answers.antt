@@ -1,10 +1,10 @@
 use Rattle.std.proofs.Common.{◌∙◌, ◌+◌, ◌++◌, ◌≤◌, sym, ap, subst, refl, arith, rules, List, ℕ, [], ◌∷◌, Some, length, length-append, get_or}
 use Rattle.std.specs.List.{All}
 use Rattle.std.proofs.lemmas.List.Elements.{All-nil, All-push, All-get_or}
-use Rattle.lookup_messages.specs.declared.messages.Fetched.{Fetched}
-use Rattle.lookup_messages.specs.Spelling.{IsFetched, IsKnownId, all_octets, fetched_octets}
+use Rattle.type_lookup.specs.declared.messages.messages.Fetched.{Fetched}
+use Rattle.type_lookup.specs.messages.Spelling.{IsFetched, IsKnownId, all_octets, fetched_octets}
 use Rattle.type_registry.specs.Passed.{known}
-use Rattle.object_visits.proofs.Left.{next_item}
+use Rattle.type_object.proofs.OfVisits.Left.{next_item}
 use Rattle.lookup_replies.proofs.Putting.{grows_then, grows_not}
 use Rattle.lookup_replies.proofs.Getting.{serves_init, asked_unknown, asked_known, asked_full, fits_still, short_text, item_put}
 use Rattle.lookup_replies.proofs.gets.objects.Goals as goal

@@ -1,7 +1,7 @@
 use Rattle.std.proofs.Common.{◌≡◌, ◌≤◌, ◌+◌, length, drop}
 use Rattle.std.specs.List.{All}
 use Rattle.type_registry.specs.Passed.{known, Grows}
-use Rattle.lookup_messages.specs.Spelling.{IsFetched, fetched_octets, all_octets}
+use Rattle.type_lookup.specs.messages.Spelling.{IsFetched, fetched_octets, all_octets}
 use Rattle.lookup_replies.proofs.Getting.{ServesFrom}
 use Rattle.lookup_replies.proofs.gets.objects.Given as goal
 

@@ -2,7 +2,7 @@ use Rattle.std.proofs.Common.{◌∙◌, sym, ap, arith, rules, drop, not, lengt
 use Rattle.std.proofs.Math.Seq.{drop-length}
 use Rattle.type_trees.specs.declared.types.HashId.{HashId}
 use Rattle.type_object.specs.References.{is_among}
-use Rattle.object_visits.proofs.Left.{left_past, left_more, left_full, left_all, next_item, past_end}
+use Rattle.type_object.proofs.OfVisits.Left.{left_past, left_more, left_full, left_all, next_item, past_end}
 use Rattle.lookup_replies.proofs.pages.left_out.Goals as goal
 
 pub ids-preserved-then-contains : goal.ids-preserved-then-contains

@@ -3,7 +3,7 @@ use Rattle.std.specs.List.{All}
 use Rattle.type_trees.specs.declared.types.HashId.{HashId}
 use Rattle.type_object.specs.References.{is_among}
 use Rattle.type_registry.specs.Passed.{known}
-use Rattle.object_visits.specs.Visits.{is_known}
+use Rattle.type_object.specs.visits.Visits.{is_known}
 use Rattle.lookup_replies.specs.Replies.{depends}
 use Rattle.lookup_replies.proofs.Listing.{listed_is, listed_known}
 use Rattle.lookup_replies.proofs.pages.listed.Goals as goal

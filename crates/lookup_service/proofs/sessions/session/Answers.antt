@@ -1,6 +1,6 @@
 use Rattle.std.proofs.Common.{◌∙◌, ◌+◌, sym, ap, refl, arith}
 use Rattle.std.specs.Io.KnownBytes.{append_known}
-use Rattle.lookup_messages.specs.Spelling.{frame_of}
+use Rattle.type_lookup.specs.messages.Spelling.{frame_of}
 use Rattle.lookup_replies.proofs.Putting.{grows_then, grows_not}
 use Rattle.lookup_service.proofs.Going.{going_none, bad_frame, no_request, no_memory, cut_reply, going_more, session_as, going_as}
 use Rattle.lookup_service.proofs.sessions.session.Goals as goal

@@ -1,6 +1,6 @@
 use Rattle.std.specs.Option.{option_map}
-use Rattle.tool_output.specs.declared.halt.Halt.TheVariants.{ReadFault}
-use Rattle.tool_output.proofs.Written.{stops_here}
+use Rattle.tool_runs.specs.declared.output.halt.Halt.TheVariants.{ReadFault}
+use Rattle.tool_runs.proofs.OfOutput.Written.{stops_here}
 use Rattle.tool_commands.specs.Wrapping.{wrapped}
 use Rattle.tool_commands.proofs.wrapping.wrap.Goals as goal
 

@@ -2,7 +2,7 @@ use Rattle.std.proofs.Common.{ℕ, List, ap, ◌∙◌}
 use Rattle.std.specs.Prelude.{slice_get}
 use Rattle.type_trees.specs.View.{tree}
 use Rattle.key_instances.specs.Caches.{instances}
-use Rattle.tool_output.specs.declared.ending.Style.TheVariants.{Lines}
+use Rattle.tool_runs.specs.declared.output.ending.Style.TheVariants.{Lines}
 use Rattle.tool_instances.specs.Instancing.{head_at, instance_line}
 use Rattle.tool_instances.proofs.Lined.{head_said}
 use Rattle.tool_instances.proofs.lines.say_head.Goals as goal

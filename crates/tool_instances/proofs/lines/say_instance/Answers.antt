@@ -2,10 +2,10 @@ use Rattle.std.proofs.Common.{Some, Err, sym, subst}
 use Rattle.std.specs.Prelude.{slice_get}
 use Rattle.type_trees.specs.View.{tree}
 use Rattle.key_instances.specs.Caches.{instances}
-use Rattle.tool_output.specs.declared.ending.Style.TheVariants.{Lines}
-use Rattle.tool_output.specs.Outputs.{Output, after_pieces}
-use Rattle.tool_output.specs.Runs.{Steps, Leads}
-use Rattle.tool_output.proofs.Turning.{steps_on, stop_on}
+use Rattle.tool_runs.specs.declared.output.ending.Style.TheVariants.{Lines}
+use Rattle.tool_runs.specs.output.Outputs.{Output, after_pieces}
+use Rattle.tool_runs.specs.output.Runs.{Steps, Leads}
+use Rattle.tool_runs.proofs.OfOutput.Turning.{steps_on, stop_on}
 use Rattle.tool_instances.specs.Instancing.{head_at, values_at, lines_at}
 use Rattle.tool_instances.proofs.Lined.{to_head}
 use Rattle.tool_instances.proofs.lines.say_instance.Goals as goal

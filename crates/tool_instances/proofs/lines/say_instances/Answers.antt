@@ -2,10 +2,10 @@ use Rattle.std.proofs.Common.{◌+◌, Some, drop, arith, ◌∙◌}
 use Rattle.std.specs.Prelude.{slice_get}
 use Rattle.type_trees.specs.View.{tree}
 use Rattle.key_instances.specs.Caches.{instances}
-use Rattle.tool_output.specs.declared.ending.Style.TheVariants.{Lines}
-use Rattle.tool_output.specs.Outputs.{after_pieces, finished}
-use Rattle.tool_output.proofs.Turning.{turn_stops}
-use Rattle.tool_output.proofs.Written.{leads_on}
+use Rattle.tool_runs.specs.declared.output.ending.Style.TheVariants.{Lines}
+use Rattle.tool_runs.specs.output.Outputs.{after_pieces, finished}
+use Rattle.tool_runs.proofs.OfOutput.Turning.{turn_stops}
+use Rattle.tool_runs.proofs.OfOutput.Written.{leads_on}
 use Rattle.tool_instances.specs.Instancing.{instances_end, lines_at}
 use Rattle.tool_instances.proofs.Lined.{to_instance, behind_instances}
 use Rattle.tool_instances.proofs.lines.say_instances.Goals as goal

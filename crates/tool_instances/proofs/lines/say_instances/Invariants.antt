@@ -1,7 +1,7 @@
 use Rattle.std.proofs.Common.{◌≡◌, ◌≤◌, Some, drop}
 use Rattle.type_trees.specs.View.{tree}
 use Rattle.key_instances.specs.Caches.{instances}
-use Rattle.tool_output.specs.Runs.{Leads}
+use Rattle.tool_runs.specs.output.Runs.{Leads}
 use Rattle.tool_instances.specs.Instancing.{instances_end}
 use Rattle.tool_instances.proofs.lines.say_instances.Given as goal
 

@@ -1,6 +1,6 @@
 use Rattle.std.proofs.Common.{[], ◌∷◌, append-nil, sym, ◌∙◌}
 use Rattle.type_trees.specs.View.{tree, val}
-use Rattle.tool_output.specs.declared.ending.Style.TheVariants.{Lines}
+use Rattle.tool_runs.specs.declared.output.ending.Style.TheVariants.{Lines}
 use Rattle.tool_instances.specs.Instancing.{value_line}
 use Rattle.tool_instances.proofs.lines.say_value.Goals as goal
 

@@ -2,10 +2,10 @@ use Rattle.std.proofs.Common.{refl, ◌+◌, Some, drop, arith, ◌∙◌, [], �
 use Rattle.std.specs.Prelude.{slice_get}
 use Rattle.type_trees.specs.View.{tree, val}
 use Rattle.key_instances.specs.Caches.{instances}
-use Rattle.tool_output.specs.declared.ending.Style.TheVariants.{Lines}
-use Rattle.tool_output.specs.Outputs.{after_pieces}
-use Rattle.tool_output.proofs.Turning.{turn_stops}
-use Rattle.tool_output.proofs.Written.{leads_on, leads_nowhere}
+use Rattle.tool_runs.specs.declared.output.ending.Style.TheVariants.{Lines}
+use Rattle.tool_runs.specs.output.Outputs.{after_pieces}
+use Rattle.tool_runs.proofs.OfOutput.Turning.{turn_stops}
+use Rattle.tool_runs.proofs.OfOutput.Written.{leads_on, leads_nowhere}
 use Rattle.tool_instances.specs.Instancing.{value_line, values_at}
 use Rattle.tool_instances.proofs.Lined.{to_value, behind_values}
 use Rattle.tool_instances.proofs.lines.say_values.Goals as goal

@@ -2,8 +2,8 @@ use Rattle.std.proofs.Common.{◌≡◌, ◌≤◌, Some, drop}
 use Rattle.std.specs.Prelude.{slice_get}
 use Rattle.type_trees.specs.View.{tree}
 use Rattle.key_instances.specs.Caches.{instances}
-use Rattle.tool_output.specs.Outputs.{Output, after_pieces}
-use Rattle.tool_output.specs.Runs.{Leads}
+use Rattle.tool_runs.specs.output.Outputs.{Output, after_pieces}
+use Rattle.tool_runs.specs.output.Runs.{Leads}
 use Rattle.tool_instances.specs.Instancing.{values_at}
 use Rattle.tool_instances.proofs.lines.say_values.Given as goal
 

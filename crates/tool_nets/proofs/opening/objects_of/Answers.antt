@@ -1,8 +1,8 @@
 use Rattle.std.proofs.Common.{◌≡◌, List, [], Result, Ok, map, subst}
 use Rattle.xt_io.specs.declared.Item.{Item}
 use Rattle.type_object.specs.Pools.{Texts}
-use Rattle.tool_output.specs.declared.stop.Stop.{Stop}
-use Rattle.tool_output.specs.Runs.{coming}
+use Rattle.tool_runs.specs.declared.output.stop.Stop.{Stop}
+use Rattle.tool_runs.specs.output.Runs.{coming}
 use Rattle.tool_types.specs.Types.{Declared, declare}
 use Rattle.tool_types.specs.Declaring.{declared_view}
 use Rattle.tool_nets.proofs.Behind.{Closes, Stops, rest_stops, types_go, types_stop}

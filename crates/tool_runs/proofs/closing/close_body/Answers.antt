@@ -1,8 +1,8 @@
 use Rattle.std.proofs.Common.{Result, arith, ◌∙◌, subst}
-use Rattle.tool_output.specs.declared.stop.Stop.{Stop}
-use Rattle.tool_output.specs.declared.turns.Next.{Next}
-use Rattle.tool_output.specs.declared.turns.Next.TheVariants.{Record}
-use Rattle.tool_output.specs.Runs.{PassesOther, coming}
+use Rattle.tool_runs.specs.declared.output.stop.Stop.{Stop}
+use Rattle.tool_runs.specs.declared.output.turns.Next.{Next}
+use Rattle.tool_runs.specs.declared.output.turns.Next.TheVariants.{Record}
+use Rattle.tool_runs.specs.output.Runs.{PassesOther, coming}
 use Rattle.tool_runs.proofs.Ended.{EndAlike, ends, halts, is_broken, passes, refuses}
 use Rattle.tool_runs.proofs.closing.close_body.Goals as goal
 

@@ -1,5 +1,5 @@
 use Rattle.std.proofs.Common.{◌≡◌, ◌≤◌}
-use Rattle.tool_output.specs.Runs.{coming, turns_left, MayGo}
+use Rattle.tool_runs.specs.output.Runs.{coming, turns_left, MayGo}
 use Rattle.tool_runs.proofs.Ended.{EndAlike}
 use Rattle.tool_runs.proofs.closing.close_body.Given as goal
 

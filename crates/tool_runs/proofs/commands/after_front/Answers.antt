@@ -1,5 +1,5 @@
 use Rattle.std.proofs.Common.{subst}
-use Rattle.tool_output.specs.declared.ending.Style.{Style}
+use Rattle.tool_runs.specs.declared.output.ending.Style.{Style}
 use Rattle.tool_runs.specs.Commands.{body_behind}
 use Rattle.tool_runs.specs.Stopping.{Concludes}
 use Rattle.tool_runs.proofs.Joined.{front_stops}

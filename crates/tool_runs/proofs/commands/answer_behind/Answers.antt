@@ -1,9 +1,9 @@
 use Rattle.std.proofs.Common.{Result, subst}
 use Rattle.std.specs.Option.{option_map}
-use Rattle.tool_output.specs.declared.ending.Style.{Style}
-use Rattle.tool_output.specs.declared.stop.Stop.{Stop}
-use Rattle.tool_output.specs.Runs.{ComesTold, coming}
-use Rattle.tool_front.specs.Fronts.{closed}
+use Rattle.tool_runs.specs.declared.output.ending.Style.{Style}
+use Rattle.tool_runs.specs.declared.output.stop.Stop.{Stop}
+use Rattle.tool_runs.specs.output.Runs.{ComesTold, coming}
+use Rattle.tool_runs.specs.front.Fronts.{closed}
 use Rattle.tool_runs.specs.Stopping.{Concludes}
 use Rattle.tool_runs.proofs.Joined.{closed_stops}
 use Rattle.tool_runs.proofs.commands.answer_behind.Goals as goal

@@ -1,7 +1,7 @@
 use Rattle.std.proofs.Common.{Some, refl, subst}
 use Rattle.xt_io.specs.Bundles.{nothing}
-use Rattle.tool_output.specs.declared.ending.Style.{Style}
-use Rattle.tool_output.specs.Outputs.{finished}
+use Rattle.tool_runs.specs.declared.output.ending.Style.{Style}
+use Rattle.tool_runs.specs.output.Outputs.{finished}
 use Rattle.tool_runs.specs.Stopping.{Concludes}
 use Rattle.tool_runs.proofs.Joined.{all_done, concluded}
 use Rattle.tool_runs.proofs.commands.end_turns.Goals as goal

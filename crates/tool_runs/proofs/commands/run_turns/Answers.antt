@@ -1,8 +1,8 @@
 use Rattle.std.proofs.Common.{ℕ, subst}
 use Rattle.std.specs.Option.{option_map}
 use Rattle.xt_io.specs.Bundles.{nothing}
-use Rattle.tool_output.specs.declared.ending.Style.{Style}
-use Rattle.tool_output.specs.Runs.{at_number, coming}
+use Rattle.tool_runs.specs.declared.output.ending.Style.{Style}
+use Rattle.tool_runs.specs.output.Runs.{at_number, coming}
 use Rattle.tool_runs.specs.Stopping.{Concludes}
 use Rattle.tool_runs.proofs.Joined.{turns_ended, turns_stopped}
 use Rattle.tool_runs.proofs.commands.run_turns.Goals as goal

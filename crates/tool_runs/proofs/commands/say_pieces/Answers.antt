@@ -1,8 +1,8 @@
 use Rattle.std.proofs.Common.{◌≡◌, ap, rules, Err}
 use Rattle.std.specs.Io.KnownBytes.{Appends}
 use Rattle.xt_io.specs.Outside.{AppendsPrefix}
-use Rattle.tool_output.specs.declared.halt.Halt.{Halt}
-use Rattle.tool_output.specs.declared.halt.Halt.TheVariants.{ReadFault}
+use Rattle.tool_runs.specs.declared.output.halt.Halt.{Halt}
+use Rattle.tool_runs.specs.declared.output.halt.Halt.TheVariants.{ReadFault}
 use Rattle.tool_runs.proofs.Joined.{pieces_went, pieces_stayed}
 use Rattle.tool_runs.proofs.commands.say_pieces.Goals as goal
 

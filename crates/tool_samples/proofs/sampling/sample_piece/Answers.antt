@@ -4,11 +4,11 @@ use Rattle.xt_io.specs.Readers.{inside}
 use Rattle.type_trees.specs.View.{tree}
 use Rattle.type_trees.specs.Bridge.{type_shape}
 use Rattle.settled_parts.specs.Settling.{outcome_val}
-use Rattle.wire_cursor.specs.Standing.{Standing}
-use Rattle.wire_streams.specs.Cursors.{stream_state, held_count}
+use Rattle.xt_wire.specs.cursor.Standing.{Standing}
+use Rattle.xt_wire.specs.streams.Cursors.{stream_state, held_count}
 use Rattle.xcdr_model.specs.declared.malformed.Fault.{Fault}
 use Rattle.xcdr_model.specs.Samples.{Outcome, read_sample}
-use Rattle.tool_output.specs.Runs.{both}
+use Rattle.tool_runs.specs.output.Runs.{both}
 use Rattle.tool_samples.proofs.Sampled.{along_of, again_of, not_whole, is_whole, piece_said, piece_takes}
 use Rattle.tool_samples.proofs.sampling.sample_piece.Goals as goal
 

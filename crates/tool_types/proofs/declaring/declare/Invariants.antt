@@ -1,6 +1,6 @@
 use Rattle.std.proofs.Common.{◌≡◌, [], map, drop}
 use Rattle.tool_types.specs.Types as spec
-use Rattle.tool_front.specs.Reading.{AreWithin}
+use Rattle.tool_runs.specs.front.Reading.{AreWithin}
 use Rattle.tool_types.specs.Declaring.{AllGood, declared_view}
 use Rattle.tool_types.proofs.Declares.{after_declared}
 use Rattle.tool_types.proofs.declaring.declare.Given as goal

@@ -2,7 +2,7 @@ use Rattle.std.proofs.Common.{ℕ, ◌+◌, List, drop, drop_of_length-le, Resul
 use Rattle.type_trees.specs.declared.types.Named.{Named}
 use Rattle.type_object.specs.Pools.{Texts}
 use Rattle.idl_types.specs.State.{declared}
-use Rattle.tool_output.specs.Outputs.{Refusal}
+use Rattle.tool_runs.specs.output.Outputs.{Refusal}
 use Rattle.tool_types.specs.Types as spec
 use Rattle.tool_types.specs.Declaring.{Joins}
 use Rattle.tool_types.proofs.Declares.{good_next, types_step, types_refused, types_end, next_type}

@@ -1,7 +1,7 @@
 use Rattle.std.proofs.Common.{◌≡◌, ◌<◌, ◌∙◌, ◌++◌, ◌-◌, [], ap, sym, subst, length, take, take_all, arith, rules, List, ℕ}
 use Rattle.std.proofs.lemmas.List.{length-take}
-use Rattle.lookup_messages.specs.Fields.{bad, payload}
-use Rattle.lookup_messages.specs.Spelling.{payload_of}
+use Rattle.type_lookup.specs.messages.Fields.{bad, payload}
+use Rattle.type_lookup.specs.messages.Spelling.{payload_of}
 use Rattle.type_lookup.specs.Frames.{Took, broken, filled}
 use Rattle.type_lookup.specs.declared.faults.FrameFault.TheVariants.{BadMessage}
 use Rattle.type_lookup.proofs.Taking.{took-more}

@@ -3,7 +3,7 @@ use Rattle.std.specs.List.{All}
 use Rattle.std.proofs.lemmas.Result.{err_from_is_err_and}
 use Rattle.std.proofs.lemmas.List.{nil_from_length, take_rest}
 use Rattle.std.proofs.lemmas.List.Elements.{All-drop}
-use Rattle.mirror_rounds.specs.Pushes.{IsOwn}
+use Rattle.type_mirror.specs.told.Pushes.{IsOwn}
 use Rattle.type_mirror.proofs.Going.{over_end}
 use Rattle.type_mirror.proofs.Settling.{over_start, over_rest, over_told_all}
 use Rattle.type_mirror.proofs.pushes.push.Goals as goal

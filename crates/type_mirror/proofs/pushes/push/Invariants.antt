@@ -1,7 +1,7 @@
 use Rattle.std.proofs.Common.{◌≡◌, ◌≤◌, ◌+◌, ◌*◌, [], length}
 use Rattle.std.specs.List.{All}
-use Rattle.mirror_rounds.specs.Rounds.{start}
-use Rattle.mirror_rounds.specs.Pushes.{IsOwn}
+use Rattle.type_mirror.specs.told.Rounds.{start}
+use Rattle.type_mirror.specs.told.Pushes.{IsOwn}
 use Rattle.type_mirror.specs.Steps.{GoingOver}
 use Rattle.type_mirror.proofs.pushes.push.Given as goal
 

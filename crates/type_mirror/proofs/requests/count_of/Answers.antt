@@ -1,5 +1,5 @@
 use Rattle.std.proofs.Common.{refl, arith}
-use Rattle.object_visits.proofs.Left.{past_end}
+use Rattle.type_object.proofs.OfVisits.Left.{past_end}
 use Rattle.type_mirror.proofs.Requesting.{counted, counted_all, counted_most, counted_last, counted_none, from_here}
 use Rattle.type_mirror.proofs.requests.count_of.Goals as goal
 

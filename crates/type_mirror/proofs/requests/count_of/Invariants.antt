@@ -1,5 +1,5 @@
 use Rattle.std.proofs.Common.{◌≡◌, ◌≤◌, ◌+◌, ◌-◌, drop}
-use Rattle.mirror_rounds.specs.Rounds.{count_of, fitting}
+use Rattle.type_mirror.specs.told.Rounds.{count_of, fitting}
 use Rattle.type_mirror.proofs.requests.count_of.Given as goal
 
 -- Those so far have room, and the rest is counted from here.

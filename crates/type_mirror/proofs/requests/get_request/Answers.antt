@@ -1,7 +1,7 @@
 use Rattle.std.proofs.Common.{◌∙◌, ap, sym, subst, List, [], ◌++◌, ◌∷◌}
 use Rattle.type_trees.specs.declared.types.HashId.{HashId}
-use Rattle.lookup_messages.specs.declared.messages.Message.TheVariants.{GetTypes}
-use Rattle.lookup_messages.specs.Spelling.{HasFrame, IsKnownId}
+use Rattle.type_lookup.specs.declared.messages.messages.Message.TheVariants.{GetTypes}
+use Rattle.type_lookup.specs.messages.Spelling.{HasFrame, IsKnownId}
 use Rattle.type_mirror.proofs.Requesting.{get_frame}
 use Rattle.type_mirror.proofs.requests.get_request.Goals as goal
 

@@ -1,8 +1,8 @@
 use Rattle.std.proofs.Common.{◌∙◌, sym, ap, subst, map, take_all, List, ℕ, arith}
-use Rattle.lookup_messages.specs.declared.messages.Fetched.{Fetched}
-use Rattle.lookup_messages.specs.declared.messages.Message.TheVariants.{PutTypes}
-use Rattle.lookup_messages.specs.Spelling.{HasFrame}
-use Rattle.mirror_rounds.specs.Rounds.{octets_of}
+use Rattle.type_lookup.specs.declared.messages.messages.Fetched.{Fetched}
+use Rattle.type_lookup.specs.declared.messages.messages.Message.TheVariants.{PutTypes}
+use Rattle.type_lookup.specs.messages.Spelling.{HasFrame}
+use Rattle.type_mirror.specs.told.Rounds.{octets_of}
 use Rattle.type_mirror.proofs.Requesting.{copied_next, puts_frame}
 use Rattle.type_mirror.proofs.requests.put_request.Goals as goal
 

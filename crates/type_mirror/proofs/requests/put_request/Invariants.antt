@@ -1,5 +1,5 @@
 use Rattle.std.proofs.Common.{◌≡◌, map, take}
-use Rattle.mirror_rounds.specs.Rounds.{octets_of}
+use Rattle.type_mirror.specs.told.Rounds.{octets_of}
 use Rattle.type_mirror.proofs.requests.put_request.Given as goal
 
 abbrev pub invariant-objects : goal.invariant-objects

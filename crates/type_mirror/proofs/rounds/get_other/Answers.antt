@@ -1,6 +1,6 @@
 use Rattle.std.proofs.Common.{ap, sym, Some, ◌∷◌}
 use Rattle.std.proofs.lemmas.Result.{err_from_is_err_and}
-use Rattle.mirror_rounds.specs.Rounds.{State, after_clash}
+use Rattle.type_mirror.specs.told.Rounds.{State, after_clash}
 use Rattle.type_mirror.proofs.Going.{over_no_memory, over_no_reply, over_said}
 use Rattle.type_mirror.proofs.rounds.get_other.Goals as goal
 

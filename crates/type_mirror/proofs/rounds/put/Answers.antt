@@ -1,6 +1,6 @@
 use Rattle.std.proofs.Common.{◌≤◌, ◌∙◌, ap, sym, refl, subst, [], length-take-le, take, arith}
 use Rattle.std.proofs.lemmas.Result.{err_from_is_err_and}
-use Rattle.mirror_rounds.specs.Rounds.{State, after_put}
+use Rattle.type_mirror.specs.told.Rounds.{State, after_put}
 use Rattle.type_mirror.proofs.Going.{over_no_memory, over_no_reply, over_said}
 use Rattle.type_mirror.proofs.Requesting.{count_most, count_within, count_fits, sizes, put_asked, batch_long}
 use Rattle.type_mirror.proofs.rounds.put.Goals as goal

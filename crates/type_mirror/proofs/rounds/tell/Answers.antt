@@ -1,6 +1,6 @@
 use Rattle.std.proofs.Common.{◌+◌, ◌<◌, ◌∙◌, refl, arith, drop, length}
 use Rattle.std.proofs.lemmas.Result.{err_from_is_err_and}
-use Rattle.mirror_rounds.specs.Rounds.{settled, paired}
+use Rattle.type_mirror.specs.told.Rounds.{settled, paired}
 use Rattle.type_mirror.proofs.Going.{over_none, over_end, over_no_memory}
 use Rattle.type_mirror.proofs.Settling.{over_next, over_stopped}
 use Rattle.type_mirror.proofs.rounds.tell.Goals as goal

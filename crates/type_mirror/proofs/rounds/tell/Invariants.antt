@@ -1,6 +1,6 @@
 use Rattle.std.proofs.Common.{◌≡◌, ◌≤◌, ◌+◌, List, drop}
-use Rattle.lookup_messages.specs.declared.messages.Fetched.{Fetched}
-use Rattle.mirror_rounds.specs.Rounds.{settled, paired}
+use Rattle.type_lookup.specs.declared.messages.messages.Fetched.{Fetched}
+use Rattle.type_mirror.specs.told.Rounds.{settled, paired}
 use Rattle.type_mirror.specs.Steps.{GoingOver}
 use Rattle.type_mirror.proofs.rounds.tell.Given as goal
 

@@ -1,5 +1,5 @@
 use Rattle.std.proofs.Common.{◌≡◌, ◌++◌, ap, sym, ◌∙◌}
-use Rattle.cell_notes.specs.Facts.{AgreeOn}
+use Rattle.type_registry.specs.notes.Facts.{AgreeOn}
 use Rattle.type_registry.specs.Found.{Consistent, found_of}
 use Rattle.type_registry.proofs.Consistency.{all_consistent, finding_is, same_octets, put_together, agree_told, consistent_views, octets_views}
 use Rattle.type_registry.proofs.agrees.agree.Goals as goal

@@ -1,7 +1,7 @@
 use Rattle.std.proofs.Common.{◌∙◌, ap}
 use Rattle.std.specs.Ordering.{is_eq}
-use Rattle.distinct_items.specs.Repeats.{any_next_is_same}
-use Rattle.distinct_items.proofs.InOrder.{sorted_repeats}
+use Rattle.node_rules.specs.distinct.Repeats.{any_next_is_same}
+use Rattle.node_rules.proofs.OfDistinct.InOrder.{sorted_repeats}
 use Rattle.type_values.proofs.sorted_keys.has_repeats.Goals as goal
 
 pub returns : goal.returns

@@ -1,6 +1,6 @@
 use Rattle.std.proofs.Common.{refl, [], tests, arith, append-nil, sym, ◌≤◌, length}
 use Rattle.std.proofs.lemmas.Result.{err_from_is_err_and}
-use Rattle.wire_writer.proofs.Puts.{puts_nothing}
+use Rattle.xt_wire.proofs.OfWriter.Puts.{puts_nothing}
 use Rattle.value_writer.proofs.block.make_room.Goals as goal
 
 pub returns-then-has_room : goal.returns-then-has_room

@@ -1,5 +1,5 @@
 use Rattle.std.proofs.Common.{arith}
-use Rattle.wire_numbers.proofs.UnitSteps.{unit_small}
+use Rattle.xt_wire.proofs.OfNumbers.UnitSteps.{unit_small}
 use Rattle.value_writer.proofs.places.end_of_number.Goals as goal
 
 pub overflow_add-padding : goal.overflow_add-padding

@@ -4,7 +4,7 @@ use Rattle.type_trees.specs.View.{val}
 use Rattle.xcdr_model.specs.Numbers.{octets, raw}
 use Rattle.xcdr_model.specs.FixedSpelling.{then_fixed}
 use Rattle.xt_shapes.specs.Vals.{number_in}
-use Rattle.wire_writer.proofs.Puts.{begins, goes_on, last, fails, left_as, within, whole}
+use Rattle.xt_wire.proofs.OfWriter.Puts.{begins, goes_on, last, fails, left_as, within, whole}
 use Rattle.value_writer.specs.Runs.{digits_of}
 use Rattle.value_writer.proofs.Parts.{next_val, no_more_vals}
 use Rattle.value_writer.proofs.RunSteps.{block_parts, block_more}

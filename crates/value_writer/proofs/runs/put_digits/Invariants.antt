@@ -1,6 +1,6 @@
 use Rattle.std.proofs.Common.{ℕ, ◌++◌, drop, map}
 use Rattle.type_trees.specs.View.{val}
-use Rattle.wire_writer.proofs.Puts.{Going}
+use Rattle.xt_wire.proofs.OfWriter.Puts.{Going}
 use Rattle.value_writer.specs.Runs.{digits_of}
 use Rattle.value_writer.proofs.runs.put_digits.Given as goal
 

@@ -2,8 +2,8 @@ use Rattle.std.proofs.Common.{sym, ap, ◌∙◌, ℕ, map}
 use Rattle.std.proofs.lemmas.Result.{err_from_is_err_and}
 use Rattle.type_trees.specs.View.{val}
 use Rattle.xcdr_model.specs.FixedSpelling.{nothing, then_fixed}
-use Rattle.wire_writer.specs.Writing.{padding_fixed}
-use Rattle.wire_writer.proofs.Puts.{begins, goes_on, last, fails, same_puts, within, whole, puts_nothing}
+use Rattle.xt_wire.specs.writer.Writing.{padding_fixed}
+use Rattle.xt_wire.proofs.OfWriter.Puts.{begins, goes_on, last, fails, same_puts, within, whole, puts_nothing}
 use Rattle.value_writer.specs.Runs.{digits_of, run_fixed}
 use Rattle.value_writer.proofs.RunSteps.{no_run, some_run}
 use Rattle.value_writer.proofs.runs.put_run.Goals as goal

@@ -6,7 +6,7 @@ use Rattle.type_trees.specs.Bridge.{type_shape}
 use Rattle.settled_parts.specs.Items as items
 use Rattle.settled_parts.specs.Items.{items_of, items_then}
 use Rattle.settled_parts.specs.Parts.{part_of}
-use Rattle.wire_cursor.proofs.Ahead.{goes_on, fails, ends}
+use Rattle.xt_wire.proofs.OfCursor.Ahead.{goes_on, fails, ends}
 use Rattle.xcdr_reader.specs.Blocks.{block_read}
 use Rattle.xcdr_reader.proofs.DecodeSteps.{part_none, value_at}
 use Rattle.xcdr_reader.proofs.InBlocks.{numbers_then, numbers_begin, number_more, number_next, counted_next}

@@ -10,8 +10,8 @@ use Rattle.type_trees.specs.Bridge.{type_shape}
 use Rattle.xcdr_model.specs.Reading.{Spot, Reading, ◌>>=◌, octets_at}
 use Rattle.settled_parts.specs.Gathering.{Gathered}
 use Rattle.settled_parts.specs.Items.{items_of}
-use Rattle.wire_cursor.specs.Standing.{Standing}
-use Rattle.wire_cursor.proofs.Ahead.{Ahead, begins, goes_on, fails, ends}
+use Rattle.xt_wire.specs.cursor.Standing.{Standing}
+use Rattle.xt_wire.proofs.OfCursor.Ahead.{Ahead, begins, goes_on, fails, ends}
 use Rattle.xcdr_reader.specs.Blocks.{and_numbers, block_read}
 use Rattle.xcdr_reader.proofs.blocks.read_through.Goals as goal
 

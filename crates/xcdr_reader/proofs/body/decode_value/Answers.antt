@@ -3,8 +3,8 @@ use Rattle.type_trees.specs.Bridge.{type_shape}
 use Rattle.xcdr_model.specs.Samples.{outcome_of}
 use Rattle.settled_parts.specs.Parts.{part_of}
 use Rattle.settled_parts.specs.Settling.{outcome_val}
-use Rattle.wire_cursor.proofs.Ahead.{goes_on, fails, ends}
-use Rattle.wire_cursor.proofs.Outcomes.{comes_typed, comes_light}
+use Rattle.xt_wire.proofs.OfCursor.Ahead.{goes_on, fails, ends}
+use Rattle.xt_wire.proofs.OfCursor.Outcomes.{comes_typed, comes_light}
 use Rattle.xcdr_reader.specs.Bodies.{value_end}
 use Rattle.xcdr_reader.specs.Modes.{read_in, mode_of}
 use Rattle.xcdr_reader.proofs.Values.{made, ended_outcome, outcome_begin}

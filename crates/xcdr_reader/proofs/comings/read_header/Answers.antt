@@ -3,9 +3,9 @@ use Rattle.std.proofs.lemmas.Bool.{ne_eqb}
 use Rattle.std.proofs.lemmas.Result.{err_from_is_err_and}
 use Rattle.xt_shapes.specs.declared.leaves.Order.{Order}
 use Rattle.xcdr_model.specs.Reading.{Spot, Reading, ◌>>=◌}
-use Rattle.wire_cursor.specs.Standing.{Standing}
-use Rattle.wire_cursor.proofs.Ahead.{Ahead, begins, goes_on, fails, ends}
-use Rattle.xcdr_one_steps.specs.Own.{own_length}
+use Rattle.xt_wire.specs.cursor.Standing.{Standing}
+use Rattle.xt_wire.proofs.OfCursor.Ahead.{Ahead, begins, goes_on, fails, ends}
+use Rattle.xcdr_steps.specs.one.Own.{own_length}
 use Rattle.xcdr_reader.specs.declared.comings.Coming.{Coming}
 use Rattle.xcdr_reader.specs.Comings.{by_length, own_read}
 use Rattle.xcdr_reader.proofs.comings.read_header.Goals as goal

@@ -3,8 +3,8 @@ use Rattle.std.proofs.lemmas.Result.{err_from_is_err_and}
 use Rattle.xt_shapes.specs.declared.leaves.Order.{Order}
 use Rattle.xcdr_model.specs.Reading.{Spot, Reading, ◌>>=◌}
 use Rattle.xcdr_model.specs.Xcdr2Reading.{present_at}
-use Rattle.wire_cursor.specs.Standing.{Standing}
-use Rattle.wire_cursor.proofs.Ahead.{Ahead, begins, goes_on, fails, ends}
+use Rattle.xt_wire.specs.cursor.Standing.{Standing}
+use Rattle.xt_wire.proofs.OfCursor.Ahead.{Ahead, begins, goes_on, fails, ends}
 use Rattle.xcdr_reader.specs.declared.comings.Coming.{Coming}
 use Rattle.xcdr_reader.specs.Comings.{by_presence, presence_read}
 use Rattle.xcdr_reader.proofs.comings.read_present.Goals as goal

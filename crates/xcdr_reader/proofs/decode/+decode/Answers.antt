@@ -24,17 +24,17 @@ use Rattle.settled_parts.specs.Items.{items_of, items_then, and_item}
 use Rattle.settled_parts.specs.Entries as entries
 use Rattle.settled_parts.specs.Entries.{entries_of, entries_then, and_entry}
 use Rattle.settled_parts.specs.Members.{slots_of, and_slot, structure_of}
-use Rattle.wire_cursor.specs.declared.faults.DecodeFault.{DecodeFault}
-use Rattle.wire_cursor.specs.Standing.{Standing}
-use Rattle.wire_cursor.specs.Decoding.{Decodes}
-use Rattle.wire_cursor.specs.Steps.{pass_at}
-use Rattle.wire_cursor.proofs.Ahead.{Ahead, begins, goes_on, fails, ends, last, read_fault, malformed}
-use Rattle.wire_cursor.proofs.Regions.{may_close, may_leave, filled_fails, filled_closes, content_stops}
-use Rattle.reading_steps.specs.declared.choices.Choice.{Choice}
-use Rattle.reading_steps.specs.Cases.{choice}
-use Rattle.reading_steps.specs.Counts.{counted}
-use Rattle.reading_steps.specs.Headings.{next_view}
-use Rattle.xcdr_one_steps.proofs.ContentSteps.{content_fails, content_ends, content_unended, content_unopened, may_close as may_close_content}
+use Rattle.xt_wire.specs.declared.cursor.faults.DecodeFault.{DecodeFault}
+use Rattle.xt_wire.specs.cursor.Standing.{Standing}
+use Rattle.xt_wire.specs.cursor.Decoding.{Decodes}
+use Rattle.xt_wire.specs.cursor.Steps.{pass_at}
+use Rattle.xt_wire.proofs.OfCursor.Ahead.{Ahead, begins, goes_on, fails, ends, last, read_fault, malformed}
+use Rattle.xt_wire.proofs.OfCursor.Regions.{may_close, may_leave, filled_fails, filled_closes, content_stops}
+use Rattle.xcdr_steps.specs.declared.reading.choices.Choice.{Choice}
+use Rattle.xcdr_steps.specs.reading.Cases.{choice}
+use Rattle.xcdr_steps.specs.reading.Counts.{counted}
+use Rattle.xcdr_steps.specs.reading.Headings.{next_view}
+use Rattle.xcdr_steps.proofs.OfOne.ContentSteps.{content_fails, content_ends, content_unended, content_unopened, may_close as may_close_content}
 use Rattle.xcdr_reader.specs.declared.modes.Mode.{Mode}
 use Rattle.xcdr_reader.specs.declared.modes.Mode.TheVariants.{Two}
 use Rattle.xcdr_reader.specs.declared.comings.Coming.{Coming}

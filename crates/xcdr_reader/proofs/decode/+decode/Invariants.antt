@@ -5,7 +5,7 @@ use Rattle.xcdr_model.specs.Premises.{sound_members}
 use Rattle.settled_parts.specs.Items.{items_of, items_then}
 use Rattle.settled_parts.specs.Entries.{entries_of}
 use Rattle.settled_parts.specs.Members.{slots_of}
-use Rattle.wire_cursor.proofs.Ahead.{Ahead}
+use Rattle.xt_wire.proofs.OfCursor.Ahead.{Ahead}
 use Rattle.xcdr_reader.specs.Insides.{members_read}
 use Rattle.xcdr_reader.specs.Members.{Pieces, Holds, pieces_then, mutable_read}
 use Rattle.xcdr_reader.specs.Parts.{items_read, entries_read}

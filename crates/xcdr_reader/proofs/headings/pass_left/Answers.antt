@@ -1,6 +1,6 @@
 use Rattle.std.proofs.Common.{ap₂, ℕ, ◌-◌}
-use Rattle.wire_cursor.specs.Steps.{pass_at}
-use Rattle.wire_cursor.proofs.Ahead.{last}
+use Rattle.xt_wire.specs.cursor.Steps.{pass_at}
+use Rattle.xt_wire.proofs.OfCursor.Ahead.{last}
 use Rattle.xcdr_reader.proofs.ModeSteps.{rest_passed}
 use Rattle.xcdr_reader.proofs.headings.pass_left.Goals as goal
 

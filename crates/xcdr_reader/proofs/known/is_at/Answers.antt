@@ -1,5 +1,5 @@
 use Rattle.std.proofs.lemmas.Bool.{eqb-true}
-use Rattle.reading_steps.proofs.ByIndex.{at_once}
+use Rattle.xcdr_steps.proofs.OfReading.ByIndex.{at_once}
 use Rattle.xcdr_reader.proofs.known.is_at.Goals as goal
 
 pub returns-then-at-members : goal.returns-then-at-members

@@ -10,9 +10,9 @@ use Rattle.xcdr_model.specs.Projection.{Part, got, failed}
 use Rattle.xcdr_model.specs.Reading.{Spot, Reading, ◌>>=◌}
 use Rattle.xcdr_model.specs.Xcdr2Reading.{scalar_at}
 use Rattle.type_trees.specs.Bridge.{literal_shape}
-use Rattle.wire_cursor.specs.Standing.{Standing}
-use Rattle.wire_cursor.proofs.Ahead.{Ahead, begins, goes_on, fails, ends}
-use Rattle.wire_scalars.specs.Scalars.{enum_at}
+use Rattle.xt_wire.specs.cursor.Standing.{Standing}
+use Rattle.xt_wire.proofs.OfCursor.Ahead.{Ahead, begins, goes_on, fails, ends}
+use Rattle.xcdr_steps.specs.scalars.Scalars.{enum_at}
 use Rattle.settled_parts.specs.Parts.{part_of}
 use Rattle.xcdr_reader.specs.declared.modes.Mode.{Mode}
 use Rattle.xcdr_reader.specs.Modes.{read_in, most}

@@ -5,8 +5,8 @@ use Rattle.xt_shapes.specs.Shape as model
 use Rattle.xcdr_model.specs.Projection.{Part, gather_text}
 use Rattle.xcdr_model.specs.Reading.{Spot, Reading, ◌>>=◌}
 use Rattle.xcdr_model.specs.Xcdr2Reading.{text_at}
-use Rattle.wire_cursor.specs.Standing.{Standing}
-use Rattle.wire_cursor.proofs.Ahead.{Ahead, begins, goes_on, fails, ends}
+use Rattle.xt_wire.specs.cursor.Standing.{Standing}
+use Rattle.xt_wire.proofs.OfCursor.Ahead.{Ahead, begins, goes_on, fails, ends}
 use Rattle.settled_parts.specs.Parts.{part_of}
 use Rattle.xcdr_reader.specs.declared.modes.Mode.{Mode}
 use Rattle.xcdr_reader.specs.Modes.{read_in}

@@ -1,7 +1,7 @@
 use Rattle.std.proofs.lemmas.Result.{err_from_is_err_and}
 use Rattle.type_trees.specs.Bridge.{type_shape}
 use Rattle.settled_parts.specs.Settling.{outcome_val}
-use Rattle.sample_frames.proofs.Samples.{sample_unbegun, sample_fails, sample_ends, sample_unended, sample_end, may_end}
+use Rattle.xcdr_samples.proofs.OfFrames.Samples.{sample_unbegun, sample_fails, sample_ends, sample_unended, sample_end, may_end}
 use Rattle.xcdr_reader.specs.Bodies.{value_outcome}
 use Rattle.xcdr_samples.proofs.Bodies.{by_parts}
 use Rattle.xcdr_samples.proofs.Outcomes.{sample_typed, sample_light}

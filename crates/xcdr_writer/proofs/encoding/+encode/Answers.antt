@@ -15,9 +15,9 @@ use Rattle.xcdr_model.specs.Xcdr2Spelling.{bit}
 use Rattle.type_trees.specs.Bridge.{type_shape, members_shape, cases_shape, member_head}
 use Rattle.type_trees.specs.Parts.{structure_parts, union_parts}
 use Rattle.type_trees.specs.View.{val, pair_val, slots_val}
-use Rattle.wire_writer.specs.Writing.{PutsWithin}
-use Rattle.wire_writer.specs.Written.{Written}
-use Rattle.wire_writer.proofs.Puts.{begins, last, within, left_as, same_puts, puts_nothing}
+use Rattle.xt_wire.specs.writer.Writing.{PutsWithin}
+use Rattle.xt_wire.specs.writer.Written.{Written}
+use Rattle.xt_wire.proofs.OfWriter.Puts.{begins, last, within, left_as, same_puts, puts_nothing}
 use Rattle.std.proofs.lemmas.List.{length-map}
 use Rattle.value_writer.specs.Places.{end_of}
 use Rattle.value_writer.specs.Slots.{slot_of}

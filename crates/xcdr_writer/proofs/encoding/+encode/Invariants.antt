@@ -2,7 +2,7 @@ use Rattle.std.proofs.Common.{◌≡◌, drop, map}
 use Rattle.std.specs.Option.{option_map}
 use Rattle.type_trees.specs.Bridge.{type_shape, members_shape, cases_shape}
 use Rattle.type_trees.specs.View.{val, pair_val, slots_val}
-use Rattle.wire_writer.proofs.Puts.{Going}
+use Rattle.xt_wire.proofs.OfWriter.Puts.{Going}
 use Rattle.value_writer.specs.Slots.{slot_of}
 use Rattle.xcdr_writer.specs.Parts.{members_of, pieces_of, case_of, items_fixed, entries_fixed}
 use Rattle.xcdr_writer.proofs.encoding.+encode.Given as goal

@@ -1,6 +1,6 @@
 use Rattle.xcdr_model.specs.FixedSpelling.{number_fixed, nothing}
 use Rattle.xcdr_model.specs.Numbers.{raw}
-use Rattle.wire_writer.proofs.Puts.{same_puts, puts_nothing}
+use Rattle.xt_wire.proofs.OfWriter.Puts.{same_puts, puts_nothing}
 use Rattle.xcdr_writer.specs.Parts.{most_of}
 use Rattle.xcdr_writer.proofs.Chains.{number_none}
 use Rattle.xcdr_writer.proofs.encoding.encode_number.Goals as goal

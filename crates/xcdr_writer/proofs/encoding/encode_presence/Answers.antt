@@ -1,4 +1,4 @@
-use Rattle.wire_writer.proofs.Puts.{puts_nothing}
+use Rattle.xt_wire.proofs.OfWriter.Puts.{puts_nothing}
 use Rattle.xcdr_writer.proofs.encoding.encode_presence.Goals as goal
 
 pub returns-else-optional : goal.returns-else-optional

@@ -1,7 +1,7 @@
 use Rattle.std.proofs.Common.{ℕ, ◌+◌, ◌++◌, ◌∷◌, [], length, refl}
 use Rattle.std.proofs.lemmas.Result.{err_from_is_err_and}
 use Rattle.xcdr_model.specs.FixedSpelling.{number_fixed, then_fixed, text_fixed}
-use Rattle.wire_writer.proofs.Puts.{begins, goes_on, last, fails, left_as, within, whole}
+use Rattle.xt_wire.proofs.OfWriter.Puts.{begins, goes_on, last, fails, left_as, within, whole}
 use Rattle.xcdr_writer.proofs.encoding.encode_text.Goals as goal
 
 pub returns-in_err-number : goal.returns-in_err-number

@@ -21,7 +21,7 @@ use Rattle.value_writer.proofs.Parts.{next_val, no_more_vals}
 use Rattle.xcdr_writer.specs.Parts.{most_of, is_bare, slot_in, piece_in, members_of, pieces_of, case_of, items_fixed, counted_items, entry_fixed, entries_fixed, counted_entries, selected_fixed, delimiter_end, header_end}
 use Rattle.xcdr_writer.proofs.ParamSteps.{ends_at_length, end_of_param, optional_param, plain_slot, end_of_end}
 use Rattle.xcdr_writer.proofs.SizeSteps.{end_of_slot}
-use Rattle.wire_numbers.specs.Units.{IsUnit}
+use Rattle.xt_wire.specs.numbers.Units.{IsUnit}
 use Rattle.xcdr_writer.proofs.SizeSteps as steps
 use Rattle.xcdr_writer.proofs.ends.+ends.Goals as goal
 

@@ -3,8 +3,8 @@ use Rattle.std.proofs.lemmas.Result.{err_from_is_err_and}
 use Rattle.xt_shapes.specs.declared.leaves.Order.{Order}
 use Rattle.xcdr_model.specs.FixedSpelling.{then_fixed, end_fixed}
 use Rattle.xcdr_model.specs.Numbers.{octets}
-use Rattle.wire_writer.specs.Writing.{padding_fixed}
-use Rattle.wire_writer.proofs.Puts.{begins, goes_on, left_as, last, fails, within, whole}
+use Rattle.xt_wire.specs.writer.Writing.{padding_fixed}
+use Rattle.xt_wire.proofs.OfWriter.Puts.{begins, goes_on, left_as, last, fails, within, whole}
 use Rattle.xcdr_writer.proofs.Chains.{in_order}
 use Rattle.xcdr_writer.proofs.params.put_end.Goals as goal
 

@@ -2,8 +2,8 @@ use Rattle.std.proofs.Common.{ℕ, refl}
 use Rattle.std.proofs.lemmas.Result.{err_from_is_err_and}
 use Rattle.xt_shapes.specs.declared.leaves.Order.{Order}
 use Rattle.xcdr_model.specs.FixedSpelling.{then_fixed, header_fixed}
-use Rattle.wire_writer.specs.Writing.{padding_fixed}
-use Rattle.wire_writer.proofs.Puts.{begins, goes_on, last, fails, within, whole}
+use Rattle.xt_wire.specs.writer.Writing.{padding_fixed}
+use Rattle.xt_wire.proofs.OfWriter.Puts.{begins, goes_on, last, fails, within, whole}
 use Rattle.xcdr_writer.specs.Parts.{header_behind}
 use Rattle.xcdr_writer.proofs.Chains.{in_order}
 use Rattle.xcdr_writer.proofs.params.put_header.Goals as goal

@@ -3,8 +3,8 @@ use Rattle.std.proofs.lemmas.Result.{err_from_is_err_and}
 use Rattle.xt_shapes.specs.declared.leaves.Order.{Order}
 use Rattle.xcdr_model.specs.FixedSpelling.{Fixed, then_fixed}
 use Rattle.xcdr_model.specs.Numbers.{octets}
-use Rattle.wire_writer.specs.Written.{Written}
-use Rattle.wire_writer.proofs.Puts.{Going, begins, goes_on, left_as, last, fails, within, whole}
+use Rattle.xt_wire.specs.writer.Written.{Written}
+use Rattle.xt_wire.proofs.OfWriter.Puts.{Going, begins, goes_on, left_as, last, fails, within, whole}
 use Rattle.xcdr_writer.specs.Parts.{long_header}
 use Rattle.xcdr_writer.proofs.Chains.{in_order}
 use Rattle.xcdr_writer.proofs.params.put_long.Goals as goal

@@ -2,7 +2,7 @@ use Rattle.std.proofs.Common.{ℕ, refl}
 use Rattle.xt_shapes.specs.declared.leaves.Order.{Order}
 use Rattle.xcdr_model.specs.FixedSpelling.{then_fixed}
 use Rattle.xcdr_model.specs.Numbers.{octets}
-use Rattle.wire_writer.proofs.Puts.{begins, goes_on, last, within, whole}
+use Rattle.xt_wire.proofs.OfWriter.Puts.{begins, goes_on, last, within, whole}
 use Rattle.xcdr_writer.specs.Parts.{short_header}
 use Rattle.xcdr_writer.proofs.Chains.{in_order}
 use Rattle.xcdr_writer.proofs.params.put_short.Goals as goal

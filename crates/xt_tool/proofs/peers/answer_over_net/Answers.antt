@@ -1,9 +1,9 @@
 use Rattle.std.proofs.Common.{ℕ, List, Err, ap, ◌∙◌, subst, codes}
 use Rattle.std.specs.Io.KnownBytes.{Appends}
 use Rattle.xt_io.specs.Outside.{AppendsPrefix, Rose}
-use Rattle.tool_output.specs.declared.ending.Style.{Style}
-use Rattle.tool_output.specs.declared.halt.Halt.{Halt}
-use Rattle.tool_output.specs.Outputs.{last_piece}
+use Rattle.tool_runs.specs.declared.output.ending.Style.{Style}
+use Rattle.tool_runs.specs.declared.output.halt.Halt.{Halt}
+use Rattle.tool_runs.specs.output.Outputs.{last_piece}
 use Rattle.tool_nets.specs.Nets.{EndsIn, net_of}
 use Rattle.tool_words.specs.View.{net_view}
 use Rattle.xt_tool.specs.Nets.{Allowed, net_style}

@@ -1,6 +1,6 @@
 use Rattle.std.proofs.Common.{sym, subst}
 use Rattle.std.specs.Option.{option_map}
-use Rattle.tool_output.specs.Runs.{Writes}
+use Rattle.tool_runs.specs.output.Runs.{Writes}
 use Rattle.tool_words.specs.declared.commands.Command.{Command}
 use Rattle.tool_words.specs.View.{command_view}
 use Rattle.tool_commands.specs.Making.{made}

@@ -1,10 +1,10 @@
 use Rattle.std.proofs.Common.{◌∙◌, subst, Ok, Err}
 use Rattle.type_trees.specs.Bridge.{type_shape}
 use Rattle.settled_parts.specs.Settling.{outcome_val}
-use Rattle.wire_cursor.specs.declared.faults.DecodeFault.{DecodeFault}
-use Rattle.wire_cursor.specs.Decoding.{Decodes}
-use Rattle.wire_cursor.specs.Slices.{at_start, slice_state}
-use Rattle.wire_cursor.specs.Standing.{Standing}
+use Rattle.xt_wire.specs.declared.cursor.faults.DecodeFault.{DecodeFault}
+use Rattle.xt_wire.specs.cursor.Decoding.{Decodes}
+use Rattle.xt_wire.specs.cursor.Slices.{at_start, slice_state}
+use Rattle.xt_wire.specs.cursor.Standing.{Standing}
 use Rattle.xcdr_samples.specs.Samples.{sample_outcome}
 use Rattle.xt_vectors.proofs.Readings.{value_found, fault_found}
 use Rattle.xt_vectors.proofs.findings.read.Goals as goal

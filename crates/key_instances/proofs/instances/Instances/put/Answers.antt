@@ -2,8 +2,8 @@ use Rattle.std.proofs.Common.{◌≡◌, ◌<◌, ◌≤◌, [], ◌∷◌, map,
 use Rattle.std.proofs.lemmas.Bool.{le-leb}
 use Rattle.std.proofs.lemmas.List.{length-map, map_push}
 use Rattle.type_trees.specs.View.{val}
-use Rattle.kept_model.specs.Kept as spec
-use Rattle.kept_model.specs.Kept.{has_key}
+use Rattle.key_instances.specs.kept.Kept as spec
+use Rattle.key_instances.specs.kept.Kept.{has_key}
 use Rattle.key_instances.specs.Caches.{instances, shown}
 use Rattle.key_instances.specs.Held.{held}
 use Rattle.key_instances.proofs.Places.{all_shown, has_is, put_there, put_new}

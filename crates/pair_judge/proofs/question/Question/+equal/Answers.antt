@@ -1,9 +1,9 @@
 use Rattle.std.proofs.Common.{◌∙◌, ap, map, sym, true, false, ◌<◌, length, arith, rules}
-use Rattle.object_nodes.specs.Seen.{shape_in}
+use Rattle.pair_memo.specs.nodes.Seen.{shape_in}
 use Rattle.object_formats.specs.View as view
-use Rattle.object_nodes.specs.Views.{part_view, arm_view}
+use Rattle.pair_memo.specs.nodes.Views.{part_view, arm_view}
 use Rattle.pair_judge.proofs.Same.{members_unequal, members_step, cases_unequal, cases_step, structures_same, unions_same, at_nodes}
-use Rattle.object_nodes.proofs.Among.{part_seen, arm_seen}
+use Rattle.pair_memo.proofs.OfNodes.Among.{part_seen, arm_seen}
 use Rattle.pair_judge.proofs.question.Question.+equal.Goals as goal
 
 pub same_members-returns-then-left-right-clause-same : goal.same_members-returns-then-left-right-clause-same

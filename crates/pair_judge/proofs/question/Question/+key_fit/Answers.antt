@@ -1,10 +1,10 @@
 use Rattle.std.proofs.Common.{◌∙◌, ap, map, sym, ◌&&◌, rules}
 use Rattle.xt_shapes.specs.Keyable.{any_key}
 use Rattle.xcdr_model.specs.Keys.{keys_fit}
-use Rattle.object_nodes.specs.Seen.{shape_in}
-use Rattle.object_nodes.specs.Views.{part_view, parts_in}
-use Rattle.object_nodes.proofs.Among.{part_seen}
-use Rattle.object_nodes.proofs.Heads.{counted_keys}
+use Rattle.pair_memo.specs.nodes.Seen.{shape_in}
+use Rattle.pair_memo.specs.nodes.Views.{part_view, parts_in}
+use Rattle.pair_memo.proofs.OfNodes.Among.{part_seen}
+use Rattle.pair_memo.proofs.OfNodes.Heads.{counted_keys}
 use Rattle.pair_judge.proofs.Fitting.{members_say, structures_fit, nodes_fit}
 use Rattle.pair_judge.proofs.question.Question.+key_fit.Goals as goal
 

@@ -3,9 +3,9 @@ use Rattle.std.proofs.lemmas.Result.{err_from_is_err_and}
 use Rattle.object_formats.specs.View as view
 use Rattle.xcdr_model.specs.Failure.{label_failure}
 use Rattle.pair_judge.specs.Judged.{IsShort}
-use Rattle.object_nodes.specs.Seen.{shape_in}
-use Rattle.object_nodes.specs.Views.{part_view, arm_view, arms_in}
-use Rattle.object_nodes.proofs.Among.{part_seen}
+use Rattle.pair_memo.specs.nodes.Seen.{shape_in}
+use Rattle.pair_memo.specs.nodes.Views.{part_view, arm_view, arms_in}
+use Rattle.pair_memo.proofs.OfNodes.Among.{part_seen}
 use Rattle.pair_judge.proofs.Paired.{structures_say, unions_say, index_stops, index_goes_on, index_left, index_right, id_stops, id_goes_on, id_done, side_stops, side_goes_on, side_done, label_stops, label_goes_on, label_done}
 use Rattle.pair_judge.proofs.question.Question.+pairs.Goals as goal
 

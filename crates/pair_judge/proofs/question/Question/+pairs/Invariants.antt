@@ -1,8 +1,8 @@
 use Rattle.std.proofs.Common.{◌≡◌, ◌+◌, ◌*◌, drop, length}
 use Rattle.xcdr_model.specs.Failure.{index_failure, id_failure, label_failure, first_of, all_labels}
 use Rattle.pair_judge.specs.Questions.{IsKept}
-use Rattle.object_nodes.specs.Seen.{shape_in}
-use Rattle.object_nodes.specs.Views.{parts_in, arms_in, bare_cases}
+use Rattle.pair_memo.specs.nodes.Seen.{shape_in}
+use Rattle.pair_memo.specs.nodes.Views.{parts_in, arms_in, bare_cases}
 use Rattle.pair_judge.proofs.question.Question.+pairs.Given as goal
 
 abbrev pub decreases-strong : goal.decreases-strong

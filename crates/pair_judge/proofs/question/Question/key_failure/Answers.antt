@@ -1,7 +1,7 @@
 use Rattle.std.proofs.Common.{rules}
 use Rattle.std.proofs.lemmas.Result.{err_from_is_err_and}
-use Rattle.object_nodes.specs.Seen.{shape_in}
-use Rattle.object_nodes.proofs.Among.{part_seen}
+use Rattle.pair_memo.specs.nodes.Seen.{shape_in}
+use Rattle.pair_memo.proofs.OfNodes.Among.{part_seen}
 use Rattle.pair_judge.proofs.Fitting.{key_stops, key_goes_on, key_done}
 use Rattle.pair_judge.proofs.question.Question.key_failure.Goals as goal
 

@@ -1,7 +1,7 @@
 use Rattle.std.proofs.Common.{◌≡◌, drop}
 use Rattle.xcdr_model.specs.Failure.{key_failure}
-use Rattle.object_nodes.specs.Seen.{shape_in}
-use Rattle.object_nodes.specs.Views.{parts_in}
+use Rattle.pair_memo.specs.nodes.Seen.{shape_in}
+use Rattle.pair_memo.specs.nodes.Views.{parts_in}
 use Rattle.pair_judge.proofs.question.Question.key_failure.Given as goal
 
 abbrev pub invariant-loop-part : goal.invariant-loop-part

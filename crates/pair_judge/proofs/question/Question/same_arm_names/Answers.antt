@@ -1,6 +1,6 @@
 use Rattle.std.proofs.Common.{◌∙◌}
-use Rattle.object_nodes.specs.Seen.{shape_in}
-use Rattle.object_nodes.proofs.Heads.{case_names_bare}
+use Rattle.pair_memo.specs.nodes.Seen.{shape_in}
+use Rattle.pair_memo.proofs.OfNodes.Heads.{case_names_bare}
 use Rattle.pair_judge.proofs.question.Question.same_arm_names.Goals as goal
 
 pub returns : goal.returns

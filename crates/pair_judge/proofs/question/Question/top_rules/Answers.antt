@@ -1,5 +1,5 @@
 use Rattle.std.proofs.lemmas.Result.{err_from_is_err_and}
-use Rattle.object_nodes.specs.Seen.{shape_in}
+use Rattle.pair_memo.specs.nodes.Seen.{shape_in}
 use Rattle.pair_judge.proofs.Fitting.{top_stops}
 use Rattle.pair_judge.proofs.question.Question.top_rules.Goals as goal
 

@@ -1,8 +1,8 @@
 use Rattle.std.proofs.Common.{ℕ, List, [], ◌∷◌, Some, Result, Ok, refl, sym, ap, subst, codes}
 use Rattle.type_trees.specs.Trees.{Tree}
-use Rattle.tool_output.specs.declared.ending.Style.TheVariants.{Lines}
-use Rattle.tool_output.specs.Outputs.{Output, Refusal, ◌>>=◌, finished, unless_refused}
-use Rattle.tool_output.specs.Runs.{Steps}
+use Rattle.tool_runs.specs.declared.output.ending.Style.TheVariants.{Lines}
+use Rattle.tool_runs.specs.output.Outputs.{Output, Refusal, ◌>>=◌, finished, unless_refused}
+use Rattle.tool_runs.specs.output.Runs.{Steps}
 use Rattle.tool_runs.specs.Commands.{only}
 use Rattle.tool_commands.proofs.judging.JudgingAnswers.answer.Goals as goal
 

@@ -2,10 +2,10 @@ use Rattle.std.proofs.Common.{Some, sym, subst}
 use Rattle.xt_io.specs.declared.Kind.TheVariants.{Sample}
 use Rattle.type_trees.specs.View.{tree}
 use Rattle.key_instances.specs.Caches.{instances}
-use Rattle.tool_output.specs.declared.ending.Style.TheVariants.{Lines}
-use Rattle.tool_output.specs.Outputs.{Output, finished, taking}
-use Rattle.tool_output.specs.Runs.{Steps}
-use Rattle.tool_output.proofs.Turning.{run_at_end}
+use Rattle.tool_runs.specs.declared.output.ending.Style.TheVariants.{Lines}
+use Rattle.tool_runs.specs.output.Outputs.{Output, finished, taking}
+use Rattle.tool_runs.specs.output.Runs.{Steps}
+use Rattle.tool_runs.proofs.OfOutput.Turning.{run_at_end}
 use Rattle.tool_instances.specs.Instancing.{instances_turn, instances_end}
 use Rattle.tool_instances.proofs.keeping.LastSamples.finish.Goals as goal
 

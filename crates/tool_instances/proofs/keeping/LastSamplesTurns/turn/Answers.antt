@@ -5,12 +5,12 @@ use Rattle.xt_io.specs.declared.Kind.TheVariants.{Sample}
 use Rattle.xt_io.specs.Bundles.{Bundle, with_payload, item_of}
 use Rattle.xt_io.specs.Readers.{inside}
 use Rattle.type_trees.specs.View.{tree}
-use Rattle.kept_model.specs.Kept.{Instances}
+use Rattle.key_instances.specs.kept.Kept.{Instances}
 use Rattle.key_instances.specs.Caches.{instances}
-use Rattle.tool_output.specs.declared.ending.Style.TheVariants.{Lines}
-use Rattle.tool_output.specs.Outputs.{Output, Turn, taking}
-use Rattle.tool_output.specs.Runs.{Steps, both}
-use Rattle.tool_output.proofs.Turning.{payload_stops, run_at_fault, run_at_taken}
+use Rattle.tool_runs.specs.declared.output.ending.Style.TheVariants.{Lines}
+use Rattle.tool_runs.specs.output.Outputs.{Output, Turn, taking}
+use Rattle.tool_runs.specs.output.Runs.{Steps, both}
+use Rattle.tool_runs.proofs.OfOutput.Turning.{payload_stops, run_at_fault, run_at_taken}
 use Rattle.tool_instances.specs.Instancing.{instances_turn, instances_end, instances_body, payload_turn}
 use Rattle.tool_instances.specs.Keeping.{Keeps}
 use Rattle.tool_instances.proofs.Turned.{record_kept}

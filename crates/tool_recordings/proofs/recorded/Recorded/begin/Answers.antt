@@ -1,4 +1,4 @@
-use Rattle.tool_output.specs.declared.halt.Halt.TheVariants.{WriteFault, OutOfMemory}
+use Rattle.tool_runs.specs.declared.output.halt.Halt.TheVariants.{WriteFault, OutOfMemory}
 use Rattle.tool_runs.proofs.Joined.{pieces_went, pieces_stayed}
 use Rattle.xt_recorder.specs.Recordings.{opening}
 use Rattle.tool_recordings.specs.Recording.{opening_pieces}

@@ -5,12 +5,12 @@ use Rattle.xt_io.specs.declared.Kind.TheVariants.{Sample}
 use Rattle.xt_io.specs.Bundles.{Bundle, with_payload, item_of}
 use Rattle.xt_io.specs.Readers.{inside}
 use Rattle.xt_io.specs.Records.{record_octets}
-use Rattle.tool_output.specs.declared.ending.Style.TheVariants.{Records}
-use Rattle.tool_output.specs.declared.halt.Halt.{Halt}
-use Rattle.tool_output.specs.declared.halt.Halt.TheVariants.{ReadFault}
-use Rattle.tool_output.specs.Outputs.{Output, taking, finished}
-use Rattle.tool_output.specs.Runs.{both}
-use Rattle.tool_output.proofs.Turning.{payload_stops, piece_goes, piece_halts, run_at_fault, run_at_taken}
+use Rattle.tool_runs.specs.declared.output.ending.Style.TheVariants.{Records}
+use Rattle.tool_runs.specs.declared.output.halt.Halt.{Halt}
+use Rattle.tool_runs.specs.declared.output.halt.Halt.TheVariants.{ReadFault}
+use Rattle.tool_runs.specs.output.Outputs.{Output, taking, finished}
+use Rattle.tool_runs.specs.output.Runs.{both}
+use Rattle.tool_runs.proofs.OfOutput.Turning.{payload_stops, piece_goes, piece_halts, run_at_fault, run_at_taken}
 use Rattle.tool_recordings.specs.Recording.{record_turn, samples_recorded}
 use Rattle.tool_recordings.proofs.Kept.{takes_piece, sample_limit}
 use Rattle.tool_recordings.proofs.recorded.RecordedTurns.turn.Goals as goal

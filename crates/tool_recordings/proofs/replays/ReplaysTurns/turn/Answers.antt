@@ -3,10 +3,10 @@ use Rattle.xt_io.specs.Bundles.{Bundle, with_payload}
 use Rattle.xt_io.specs.Readers.{inside}
 use Rattle.xt_recorder.specs.Replaying.{reader_of, state_of}
 use Rattle.xt_recorder.specs.Replays.{State}
-use Rattle.tool_output.specs.declared.ending.Style.TheVariants.{Lines}
-use Rattle.tool_output.specs.Outputs.{Output, finished}
-use Rattle.tool_output.specs.Runs.{both}
-use Rattle.tool_output.proofs.Turning.{payload_stops, run_at_fault}
+use Rattle.tool_runs.specs.declared.output.ending.Style.TheVariants.{Lines}
+use Rattle.tool_runs.specs.output.Outputs.{Output, finished}
+use Rattle.tool_runs.specs.output.Runs.{both}
+use Rattle.tool_runs.proofs.OfOutput.Turning.{payload_stops, run_at_fault}
 use Rattle.tool_recordings.specs.Replaying.{replay_turn, replayed}
 use Rattle.tool_recordings.proofs.Stepped.{record_stepped}
 use Rattle.tool_recordings.proofs.replays.ReplaysTurns.turn.Goals as goal

@@ -1,6 +1,6 @@
 use Rattle.std.proofs.Common.{rules, ap, ◌∙◌, ◌++◌, ◌≤◌, take, arith, ◌≡◌, length, ℕ, List}
 use Rattle.xcdr_model.specs.Numbers.{low_octets}
-use Rattle.wire_numbers.proofs.UnitSteps.{unit_small}
+use Rattle.xt_wire.proofs.OfNumbers.UnitSteps.{unit_small}
 use Rattle.value_writer.proofs.Blocks.{number_added, low_part}
 use Rattle.value_writer.proofs.block.Block.add_low.Goals as goal
 

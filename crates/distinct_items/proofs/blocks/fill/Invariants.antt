@@ -1,9 +1,0 @@
-use Rattle.std.proofs.Common.{◌≡◌, ◌++◌}
-use Rattle.arrayvec.specs.ArrayVec.{array_vec_len}
-use Rattle.distinct_items.proofs.blocks.fill.Given as goal
-
-abbrev pub invariant-loop-turn : goal.invariant-loop-turn
-invariant-loop-turn g l = record {
-  split : g.N.Numbers.left l.initial.numbers ≡ l.block.items ++ g.N.Numbers.left l.numbers;
-  len : array_vec_len l.block ≡ l._turn;
-}

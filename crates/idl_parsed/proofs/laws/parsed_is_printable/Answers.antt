@@ -1,5 +1,0 @@
-use Rattle.idl_parsed.proofs.Whole.{parsed_is_printable}
-use Rattle.idl_parsed.proofs.laws.parsed_is_printable.Goals as goal
-
-pub returns : goal.returns
-returns c = parsed_is_printable

@@ -1,0 +1,10 @@
+//! Keys as octets, and their hashes (DDS-XTypes 1.3, 7.6.8).
+
+mod hashes;
+mod lengths;
+mod order;
+mod parts;
+
+pub use hashes::{hash_of, key_hash};
+pub use lengths::short_key;
+pub use parts::key_octets;

@@ -1,6 +1,0 @@
-use Rattle.std.proofs.Common.{◌++◌, ap, ◌∙◌, drop, replicate}
-use Rattle.key_octets.proofs.Padded.{padded_is}
-use Rattle.key_octets.proofs.hashes.padded.Goals as goal
-
-pub returns : goal.returns
-returns c = ap (λ l. l ++ drop c.min-count.result (replicate 16 0)) c.copy_from_slice.ensures.after ∙ padded_is c.args.octets.now c.min-count.result c.min-count.ensures

@@ -1,0 +1,30 @@
+//! Why workers did not serve all.
+ghost use Rattle.std.specs.Prelude.{◌≡◌};
+ghost use Rattle.lookup_service.specs.workers.Outcomes.{both_of};
+
+use thiserror::Error;
+
+/// Why workers did not serve all that they were to. A fault of a door goes before want of memory.
+#[derive(Clone, Copy, Debug, PartialEq, Eq, Error)]
+pub enum ServeFault {
+    /// A door failed.
+    #[error("a door failed")]
+    DoorFault,
+    /// Memory was wanting, in a session or where a link was to come in.
+    #[error("memory was wanting")]
+    OutOfMemory,
+}
+
+/// What two parts of the seats answer together.
+pub(crate) fn both(
+    first: Result<(), ServeFault>,
+    second: Result<(), ServeFault>,
+) -> Result<(), ServeFault>
+    ensures { result ≡ both_of first second }
+{
+    match (first, second) {
+        (Err(ServeFault::DoorFault), _) => Err(ServeFault::DoorFault),
+        (_, Err(fault)) => Err(fault),
+        (first, Ok(())) => first,
+    }
+}

@@ -1,7 +1,0 @@
-//! A link in memory to the service itself, by which calls that ask a peer are run without one (this profile's own).
-#![tactic(auto)]
-
-mod exchange;
-mod links;
-
-pub use links::LoopLink;

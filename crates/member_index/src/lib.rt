@@ -1,6 +1,0 @@
-//! The members of a structure by their ids, found without going through all of them.
-#![tactic(auto)]
-
-mod index;
-
-pub use index::MemberIndex;

@@ -1,8 +1,0 @@
-use Rattle.std.proofs.Common.{◌≡◌, drop}
-use Rattle.object_nodes.specs.Seen.{See}
-use Rattle.object_nodes.specs.Views.{arms_in}
-use Rattle.xt_shapes.specs.Select.{case_at}
-use Rattle.object_nodes.proofs.places.arm_at.Given as goal
-
-abbrev pub invariant-loop-arm : goal.invariant-loop-arm
-invariant-loop-arm l = (see : See) → case_at (arms_in see (drop l.arm-index l.arms)) l.id ≡ case_at (arms_in see l.arms) l.id

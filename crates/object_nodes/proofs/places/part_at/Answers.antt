@@ -1,5 +1,0 @@
-use Rattle.object_nodes.proofs.Among.{part_seen}
-use Rattle.object_nodes.proofs.places.part_at.Goals as goal
-
-pub returns-then-part-id-clause-seen : goal.returns-then-part-id-clause-seen
-returns-then-part-id-clause-seen c = λ pool h. part_seen pool c.args.parts.now c.loop-part.part-index c.part-item.result c.loop-part-test.true c.part-item.is h

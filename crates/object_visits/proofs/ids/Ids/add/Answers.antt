@@ -1,5 +1,0 @@
-use Rattle.object_visits.proofs.Among.{added}
-use Rattle.object_visits.proofs.ids.Ids.add.Goals as goal
-
-pub returns-clause-ok : goal.returns-clause-ok
-returns-clause-ok c = added c.args.id c.self.inside.keys.keys _ _ c.in_ok-insert.ensures.keys c.self.view_is c.requires

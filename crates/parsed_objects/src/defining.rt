@@ -1,6 +1,0 @@
-ghost use Rattle.parsed_objects.specs.Defining as law;
-
-/// Each type that a text declares is one that `objects_of` takes: it has objects of its own.
-pub fn parsed_has_objects()
-    ensures { law.ParsedHasObjects }
-{}

@@ -1,8 +1,0 @@
-use Rattle.std.proofs.Common.{sym}
-use Rattle.reading_steps.proofs.ByIndex.{at_once}
-use Rattle.reading_steps.proofs.places.find_member.Goals as goal
-
-pub returns-then-members-next : goal.returns-then-members-next
-returns-then-members-next c =
-    let item = c.index-members-next.result in
-    sym (at_once c.args.members.now c.args.next c.args.id item c.requires c.if-next-members.true c.if-members-next.true)

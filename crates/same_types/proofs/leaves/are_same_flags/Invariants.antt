@@ -1,5 +1,0 @@
-use Rattle.std.proofs.Common.{◌≡◌, take, length}
-use Rattle.same_types.proofs.leaves.are_same_flags.Given as goal
-
-abbrev pub invariant-loop-at : goal.invariant-loop-at
-invariant-loop-at l = (take l.at l.left ≡ take l.at l.right) × (length l.left ≡ length l.right)

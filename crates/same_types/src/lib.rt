@@ -1,7 +1,0 @@
-//! Whether two types are the same in all that they say.
-#![tactic(auto)]
-
-mod leaves;
-mod types;
-
-pub use types::same_type;

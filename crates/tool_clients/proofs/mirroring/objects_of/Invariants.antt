@@ -1,6 +1,0 @@
-use Rattle.std.proofs.Common.{◌≡◌, take}
-use Rattle.tool_clients.specs.Clients.{objects_in}
-use Rattle.tool_clients.proofs.mirroring.objects_of.Given as goal
-
-abbrev pub invariant-loop-index : goal.invariant-loop-index
-invariant-loop-index l = l.objects ≡ objects_in (take l.index l.pool)

@@ -1,0 +1,121 @@
+ghost use Rattle.std.specs.Prelude.{◌≡◌, ◌≤◌, [], ◌∷◌, Some, None, OnOk, length, map};
+ghost use Rattle.type_resolve.specs.Adding.{all_added};
+ghost use Rattle.idl_types.specs.State as idl_types;
+ghost use Rattle.tool_runs.specs.output.Outputs.{Output, after_pieces, finished, unless_refused};
+ghost use Rattle.xt_io.specs.Records.{record_octets};
+ghost use Rattle.tool_runs.specs.output.Runs.{Steps, StopsWriting};
+ghost use Rattle.tool_runs.specs.front.Reading.{AreWithin};
+ghost use Rattle.tool_runs.specs.Commands.{answer_to, only};
+ghost use Rattle.tool_types.specs.Declaring.{AllGood, AreGood, IsGood, declared_view};
+ghost use Rattle.tool_commands.specs.listing.Listing as spec;
+
+use std::alloc::Global;
+use tool_runs::output::{Halt, Stop, Style, record};
+use tool_runs::{Answers, say_pieces};
+use tool_types::{Declared, declare};
+use type_object::Pool;
+use type_resolve::objects_of;
+use type_trees::Named;
+use xt_io::{Item, Kind, Sink};
+use xt_lists::OutOfMemory;
+
+/// The objects of the types that texts declare, each as a record: what stands inside a type first, of each type the minimal object before
+/// the complete one, and each object once.
+#[derive(Debug, Clone, Copy)]
+pub struct Compiling;
+
+// The types' objects are in the pool of the front already, so no text is refused here.
+fn add_types(alloc: Global, types: &[Named], pool: &mut Pool) -> Result<(), OutOfMemory>
+    requires { AreGood types.now }
+    ensures { OnOk result (all_added pool.old (spec.texts_of (idl_types.declared types.now)) ≡ (pool.new, None)) }
+{
+    for named in types {
+        match objects_of(alloc, named, pool) {
+            Ok(_) => {}
+            Err(_) => return Err(OutOfMemory),
+        }
+    }
+    Ok(())
+}
+
+fn add_record(alloc: Global, declared: &Declared, pool: &mut Pool) -> Result<(), OutOfMemory>
+    requires { IsGood declared.now }
+    ensures { OnOk result (all_added pool.old (spec.texts_in (declared_view declared.now)) ≡ (pool.new, None)) }
+{
+    match declared {
+        Declared::Types(types) => add_types(alloc, types.as_slice(), pool),
+        Declared::Object { .. } => Ok(()),
+    }
+}
+
+fn add_all(alloc: Global, records: &[Declared], pool: &mut Pool) -> Result<(), OutOfMemory>
+    requires { AllGood records.now }
+    ensures { OnOk result (all_added pool.old (spec.all_texts (map declared_view records.now)) ≡ (pool.new, None)) }
+{
+    for declared in records {
+        match add_record(alloc, declared, pool) {
+            Ok(()) => {}
+            Err(_) => return Err(OutOfMemory),
+        }
+    }
+    Ok(())
+}
+
+fn write_object<K: Sink>(alloc: Global, octets: &[u8], sink: &mut K) -> Result<(), Stop>
+    ensures steps { (rest : Output) → Steps Style.Records (Some (after_pieces (record_octets Kind.Object octets.now ∷ []) rest)) (Some rest) result (K.taken sink.old) (K.taken sink.new) }
+    ensures stops { StopsWriting (K.faults sink.old) (K.faults sink.new) result }
+    ensures same { K.name sink.new ≡ K.name sink.old }
+{
+    match record(alloc, Kind::Object, octets) {
+        Ok(piece) => say_pieces(sink, piece.octets()),
+        Err(_) => Err(Stop::Halted(Halt::OutOfMemory)),
+    }
+}
+
+fn write_objects<K: Sink>(alloc: Global, pool: &Pool, sink: &mut K) -> Result<(), Stop>
+    ensures steps { Steps Style.Records (Some (only (map spec.object_record pool.now))) (Some finished) result (K.taken sink.old) (K.taken sink.new) }
+    ensures stops { StopsWriting (K.faults sink.old) (K.faults sink.new) result }
+    ensures same { K.name sink.new ≡ K.name sink.old }
+{
+    for index in 0..pool.len() {
+        let entry = pool.at(index);
+        match write_object(alloc, entry.octets, sink) {
+            Ok(()) => {}
+            Err(stop) => return Err(stop),
+        }
+    }
+    Ok(())
+}
+
+fn compile_all<K: Sink>(alloc: Global, records: &[Declared], sink: &mut K) -> Result<(), Stop>
+    requires { AllGood records.now }
+    ensures steps { Steps Style.Records (Some (only (map spec.object_record (all_added [] (spec.all_texts (map declared_view records.now))).0))) (Some finished) result (K.taken sink.old) (K.taken sink.new) }
+    ensures stops { StopsWriting (K.faults sink.old) (K.faults sink.new) result }
+    ensures same { K.name sink.new ≡ K.name sink.old }
+{
+    let mut pool = Pool::new(alloc);
+    match add_all(alloc, records, &mut pool) {
+        Ok(()) => write_objects(alloc, &pool, sink),
+        Err(_) => Err(Stop::Halted(Halt::OutOfMemory)),
+    }
+}
+
+impl Answers for Compiling {
+    ghost use Rattle.tool_runs.specs.declared.output.ending.Style.TheVariants as styles;
+    ghost use Rattle.tool_commands.specs.listing.Listing.{compile_records};
+
+    ghost style = { styles.Records };
+
+    ghost answered = { λ s records. compile_records records };
+
+    fn writes() -> Style {
+        Style::Records
+    }
+
+    fn answer<K: Sink>(&self, alloc: Global, records: &[Item], sink: &mut K) -> Result<(), Stop> {
+        match declare(alloc, records) {
+            Err(stop) => Err(stop),
+            Ok((declared, _)) => compile_all(alloc, declared.as_slice(), sink),
+        }
+    }
+}

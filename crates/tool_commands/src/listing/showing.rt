@@ -1,0 +1,157 @@
+ghost use Rattle.std.specs.Prelude.{◌≡◌, ◌≤◌, ◌++◌, true, Some, IfOk, OnOk, length, map};
+ghost use Rattle.std.specs.List.{concat};
+ghost use Rattle.type_trees.specs.View.{tree};
+ghost use Rattle.type_resolve.specs.Objects as objects;
+ghost use Rattle.idl_types.specs.State as idl_types;
+ghost use Rattle.idl_printer.specs.Lines.{printed};
+ghost use Rattle.tool_runs.specs.output.Outputs.{Output, after_pieces, finished, unless_refused};
+ghost use Rattle.tool_runs.specs.output.Runs.{Steps, StopsWriting};
+ghost use Rattle.tool_runs.specs.front.Reading.{AreWithin};
+ghost use Rattle.tool_runs.specs.Commands.{answer_to, only};
+ghost use Rattle.tool_types.specs.Declaring.{AllGood, AreGood, IsGood, declared_view};
+ghost use Rattle.tool_commands.specs.listing.Listing as spec;
+
+use std::alloc::Global;
+use tool_runs::output::{Halt, Stop, Style};
+use tool_runs::{Answers, say_pieces};
+use tool_types::{Declared, declare};
+use type_object::Pool;
+use type_resolve::objects_of;
+use type_trees::{HashId, Named};
+use xt_idl::print;
+use xt_io::{Item, Sink};
+use xt_lists::{OutOfMemory, Row, Text};
+
+/// The types that texts declare, as printed IDL and a line for each with its name and its minimal and complete identifiers; of an object a
+/// line with its type's name, or `-`, and its identifier.
+#[derive(Debug, Clone, Copy)]
+pub struct Showing;
+
+fn name_or_none(name: &Option<Text>) -> &[u8]
+    ensures { result.now ≡ spec.name_or_none name.now }
+{
+    match name {
+        Some(text) => text.octets(),
+        None => b"-",
+    }
+}
+
+fn object_text(alloc: Global, id: &HashId, name: &Option<Text>) -> Result<Text, OutOfMemory>
+    ensures { IfOk result (λ text. text ≡ spec.object_line id.now name.now) }
+{
+    let mut text = Text::from_octets(alloc, b"// ")?;
+    text.append(name_or_none(name))?;
+    let end = format!(in alloc; " {id}\n")?;
+    text.append(end.as_bytes())?;
+    Ok(text)
+}
+
+// A type's line. Its objects are in the pool already.
+fn type_text(alloc: Global, named: &Named, pool: &mut Pool) -> Result<Text, OutOfMemory>
+    requires { objects.has_objects (tree named.now.ty) ≡ true }
+    ensures { IfOk result (λ text. text ≡ spec.type_line (named.now.name, tree named.now.ty)) }
+{
+    let Ok(ids) = objects_of(alloc, named, pool) else {
+        return Err(OutOfMemory);
+    };
+    let mut text = Text::from_octets(alloc, b"// ")?;
+    text.append(named.name.octets())?;
+    let end = format!(in alloc; " {} {}\n", ids.minimal, ids.complete)?;
+    text.append(end.as_bytes())?;
+    Ok(text)
+}
+
+fn push_lines(
+    alloc: Global,
+    types: &[Named],
+    pool: &mut Pool,
+    text: &mut Text,
+) -> Result<(), OutOfMemory>
+    requires { AreGood types.now }
+    ensures { OnOk result (text.new ≡ text.old ++ concat (map spec.type_line (idl_types.declared types.now))) }
+{
+    for named in types {
+        let line = type_text(alloc, named, pool)?;
+        text.append(line.octets())?;
+    }
+    Ok(())
+}
+
+fn types_text(alloc: Global, types: &Row<Named>, pool: &mut Pool) -> Result<Text, OutOfMemory>
+    requires { AreGood types.now }
+    ensures { IfOk result (λ text. text ≡ printed (idl_types.declared types.now) ++ concat (map spec.type_line (idl_types.declared types.now))) }
+{
+    let mut text = print(alloc, types)?;
+    push_lines(alloc, types.as_slice(), pool, &mut text)?;
+    Ok(text)
+}
+
+fn shown(alloc: Global, declared: &Declared, pool: &mut Pool) -> Result<Text, OutOfMemory>
+    requires { IsGood declared.now }
+    ensures { IfOk result (λ text. text ≡ concat (spec.shown (declared_view declared.now))) }
+{
+    match declared {
+        Declared::Types(types) => types_text(alloc, types, pool),
+        Declared::Object { id, name } => object_text(alloc, id, name),
+    }
+}
+
+fn show_one<K: Sink>(
+    alloc: Global,
+    declared: &Declared,
+    pool: &mut Pool,
+    sink: &mut K,
+) -> Result<(), Stop>
+    requires { IsGood declared.now }
+    ensures steps { (rest : Output) → Steps Style.Lines (Some (after_pieces (spec.shown (declared_view declared.now)) rest)) (Some rest) result (K.taken sink.old) (K.taken sink.new) }
+    ensures stops { StopsWriting (K.faults sink.old) (K.faults sink.new) result }
+    ensures same { K.name sink.new ≡ K.name sink.old }
+{
+    match shown(alloc, declared, pool) {
+        Ok(text) => say_pieces(sink, text.octets()),
+        Err(_) => Err(Stop::Halted(Halt::OutOfMemory)),
+    }
+}
+
+fn show_all<K: Sink>(
+    alloc: Global,
+    records: &[Declared],
+    pool: &mut Pool,
+    sink: &mut K,
+) -> Result<(), Stop>
+    requires { AllGood records.now }
+    ensures steps { Steps Style.Lines (Some (only (spec.all_shown (map declared_view records.now)))) (Some finished) result (K.taken sink.old) (K.taken sink.new) }
+    ensures stops { StopsWriting (K.faults sink.old) (K.faults sink.new) result }
+    ensures same { K.name sink.new ≡ K.name sink.old }
+{
+    for declared in records {
+        match show_one(alloc, declared, pool, sink) {
+            Ok(()) => {}
+            Err(stop) => return Err(stop),
+        }
+    }
+    Ok(())
+}
+
+impl Answers for Showing {
+    ghost use Rattle.tool_runs.specs.declared.output.ending.Style.TheVariants as styles;
+    ghost use Rattle.tool_commands.specs.listing.Listing.{show_lines};
+
+    ghost style = { styles.Lines };
+
+    ghost answered = { λ s records. show_lines records };
+
+    fn writes() -> Style {
+        Style::Lines
+    }
+
+    fn answer<K: Sink>(&self, alloc: Global, records: &[Item], sink: &mut K) -> Result<(), Stop> {
+        match declare(alloc, records) {
+            Err(stop) => Err(stop),
+            Ok((declared, pool)) => {
+                let mut pool = pool;
+                show_all(alloc, declared.as_slice(), &mut pool, sink)
+            }
+        }
+    }
+}

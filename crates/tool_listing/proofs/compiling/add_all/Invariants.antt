@@ -1,8 +1,0 @@
-use Rattle.std.proofs.Common.{◌≡◌, map, drop}
-use Rattle.type_resolve.specs.Adding.{all_added}
-use Rattle.tool_types.specs.Declaring.{AllGood, declared_view}
-use Rattle.tool_listing.specs.Listing.{all_texts}
-use Rattle.tool_listing.proofs.compiling.add_all.Given as goal
-
-abbrev pub invariant-loop-declared : goal.invariant-loop-declared
-invariant-loop-declared l = AllGood (drop l.declared-index l.records) × (all_added l.initial.pool (all_texts (map declared_view l.records)) ≡ all_added l.pool (all_texts (map declared_view (drop l.declared-index l.records))))

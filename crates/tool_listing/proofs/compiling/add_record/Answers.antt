@@ -1,5 +1,0 @@
-use Rattle.tool_listing.proofs.Listed.{none_added}
-use Rattle.tool_listing.proofs.compiling.add_record.Goals as goal
-
-pub returns-in-Object : goal.returns-in-Object
-returns-in-Object c = rw c.in-Object.is (none_added c.args.pool.now)

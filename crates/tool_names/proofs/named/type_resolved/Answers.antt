@@ -1,6 +1,0 @@
-use Rattle.type_trees.specs.View.{tree}
-use Rattle.tool_names.proofs.Soundness.{resolved_valid}
-use Rattle.tool_names.proofs.named.type_resolved.Goals as goal
-
-pub returns-in-Ok-clause-valid : goal.returns-in-Ok-clause-valid
-returns-in-Ok-clause-valid c = resolved_valid c.args.pool.now c.args.id.now (tree c.in-Ok.ty) c.in-Ok.ensures.ok

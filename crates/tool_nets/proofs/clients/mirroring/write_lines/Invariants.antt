@@ -1,0 +1,11 @@
+use Rattle.std.proofs.Common.{◌≡◌, ◌≤◌}
+use Rattle.tool_nets.specs.clients.Lines.{told_line}
+use Rattle.tool_nets.proofs.OfClients.Pieces.{SaidUpTo}
+use Rattle.tool_nets.proofs.clients.mirroring.write_lines.Given as goal
+
+abbrev pub invariant-loop-index : goal.invariant-loop-index
+invariant-loop-index g l = record {
+  said : SaidUpTo told_line l.told l.index (g.K.Sink.taken l.initial.sink) (g.K.Sink.taken l.sink);
+  later : g.K.Sink.faults l.initial.sink ≤ g.K.Sink.faults l.sink;
+  same : g.K.Sink.name l.sink ≡ g.K.Sink.name l.initial.sink;
+}

@@ -1,0 +1,13 @@
+//! What a command writes and how it ends: lines or records, one after another, and a last one where it is refused.
+
+mod ending;
+mod halt;
+mod saying;
+mod stop;
+mod turns;
+
+pub use ending::{Cause, Ending, Style};
+pub use halt::Halt;
+pub use saying::{last, line, record, refuse_bundle, refuse_fault, say};
+pub use stop::{Refused, Stop};
+pub use turns::{Next, Turns, next_of, pass_other, payload_of, run_body, stop_for};

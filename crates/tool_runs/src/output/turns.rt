@@ -1,0 +1,225 @@
+ghost use Rattle.std.specs.Prelude.{◌≡◌, ◌≤◌, ◌+◌, None, IfErr, IfOk, OnOk, length};
+ghost use Rattle.std.specs.Option.{option_map};
+ghost use Rattle.std.specs.Io.KnownBytes.{IsAtEnd};
+ghost use Rattle.xt_io.specs.Outside.{KeepsTold};
+ghost use Rattle.tool_runs.specs.output.Runs.{coming, turns_left, IsReady, MayGo, GoesOn, Steps, Stops, HaltsReading, StopsReading, StopsBundle, StopsFor, TakesPayload, PassesOther, at_number};
+ghost use Rattle.tool_runs.specs.output.Outputs.{same_kind};
+ghost use Rattle.tool_runs.specs.declared.output.turns.Next.TheVariants.{Record};
+ghost use Rattle.xt_io.specs.Bundles.{limit_of, nothing};
+
+use crate::output::ending::Style;
+use crate::output::halt::Halt;
+use crate::output::saying::{refuse_bundle, refuse_fault};
+use crate::output::stop::Stop;
+use std::alloc::Global;
+use xt_io::{BundleReader, Head, Kind, RecordFault, Sink, Source};
+use xt_lists::Text;
+
+/// What comes next in a body: the head of a record whose payload is still to be read, the end, or a fault of the octets.
+#[derive(Debug, Clone, Copy, PartialEq, Eq)]
+pub enum Next {
+    Record(Head),
+    End,
+    Broken(RecordFault),
+}
+
+/// What comes next. A payload that wasn't read whole is passed over.
+pub fn next_of<S: Source>(reader: &mut BundleReader<S>) -> Result<Next, Halt>
+    requires { reader.old.fault ≡ None }
+    ensures coming { IfOk result (λ next. KeepsTold reader.old.ahead (coming next reader.new)) }
+    ensures ready { IfOk result (λ next. MayGo next reader.new) }
+    ensures fewer { IfOk result (λ next. turns_left next reader.new.may_follow ≤ reader.old.may_follow) }
+    ensures halts { HaltsReading reader.old.faults reader.new.faults result }
+    ensures same { reader.new.name ≡ reader.old.name }
+{
+    match reader.next_head() {
+        Ok(Some(head)) => Ok(Next::Record(head)),
+        Ok(None) => Ok(Next::End),
+        Err(RecordFault::ReadFault) => Err(Halt::ReadFault),
+        Err(RecordFault::OutOfMemory) => Err(Halt::OutOfMemory),
+        Err(fault) => Ok(Next::Broken(fault)),
+    }
+}
+
+/// The stop for a fault of the reader: one of the octets is a refusal, the others halt the run.
+pub fn stop_for(alloc: Global, fault: RecordFault) -> Stop
+    ensures { StopsFor fault result }
+{
+    match fault {
+        RecordFault::ReadFault => Stop::Halted(Halt::ReadFault),
+        RecordFault::OutOfMemory => Stop::Halted(Halt::OutOfMemory),
+        RecordFault::Truncated { .. }
+        | RecordFault::UnknownKind { .. }
+        | RecordFault::TooLong { .. }
+        | RecordFault::TooMany { .. } => refuse_fault(alloc, fault),
+    }
+}
+
+/// The payload of the record whose head the reader just gave.
+pub fn payload_of<S: Source>(
+    alloc: Global,
+    head: Head,
+    reader: &mut BundleReader<S>,
+) -> Result<Text, Stop>
+    requires { IsReady head reader.old }
+    ensures takes { TakesPayload head (λ t octets. octets ≡ t) (coming (Record head) reader.old) reader.new.ahead result }
+    ensures size { IfOk result (λ t. length t ≤ limit_of head.kind) }
+    ensures on { OnOk result (GoesOn reader.old reader.new) }
+    ensures cause { IfErr result StopsBundle }
+    ensures stops { StopsReading reader.old.faults reader.new.faults result }
+    ensures same { reader.new.name ≡ reader.old.name }
+{
+    match reader.payload(alloc) {
+        Ok(payload) => Ok(payload),
+        Err(fault) => Err(stop_for(alloc, fault)),
+    }
+}
+
+fn is_note(kind: Kind) -> bool
+    ensures { result ≡ same_kind kind Kind.Note }
+{
+    match kind {
+        Kind::Note => true,
+        Kind::Object | Kind::Sample | Kind::Idl | Kind::Json => false,
+    }
+}
+
+/// Passes over the record whose head the reader just gave: a Note is read whole and left, and another record has no place, which is
+/// refused once it was read whole. It gives the reader back.
+pub fn pass_other<S: Source>(
+    alloc: Global,
+    head: Head,
+    reader: BundleReader<S>,
+) -> (BundleReader<S>, Result<(), Stop>)
+    requires { IsReady head reader }
+    ensures passes { PassesOther head (coming (Record head) reader) result.0.ahead result.1 }
+    ensures on { OnOk result.1 (GoesOn reader result.0) }
+    ensures cause { IfErr result.1 StopsBundle }
+    ensures stops { StopsReading reader.faults result.0.faults result.1 }
+    ensures same { result.0.name ≡ reader.name }
+{
+    let mut reader = reader;
+    match payload_of(alloc, head, &mut reader) {
+        Err(stop) => (reader, Err(stop)),
+        Ok(_) => {
+            if is_note(head.kind) {
+                (reader, Ok(()))
+            } else {
+                (reader, Err(refuse_bundle(alloc, head.at, b"misplaced")))
+            }
+        }
+    }
+}
+
+/// What a command makes of the records of a body: a turn for each.
+pub trait Turns {
+    ghost use Rattle.std.specs.Prelude.{◌≡◌, ℕ, ◌+◌, Bool, true, false, OnOk};
+    ghost use Rattle.std.specs.Option.{option_map};
+    ghost use Rattle.xt_io.specs.Bundles.{Bundle, only_fault, before_bundle};
+    ghost use Rattle.xt_io.specs.declared.Item.{Item};
+    ghost use Rattle.xt_io.specs.declared.Kind.{Kind};
+    ghost use Rattle.xt_io.specs.declared.RecordFault.{RecordFault};
+    ghost use Rattle.tool_runs.specs.declared.output.ending.Style.{Style};
+    ghost use Rattle.tool_runs.specs.declared.output.turns.Next.TheVariants.{Record};
+    ghost use Rattle.tool_runs.specs.output.Outputs.{Output, broken, refused, other_output};
+    ghost use Rattle.tool_runs.specs.output.Runs.{coming, IsReady, GoesOn, Steps, Stops};
+
+    /// Whether lines or records are written.
+    ghost style: { Style };
+
+    /// The kinds of records that are taken.
+    ghost kinds: { Kind → Bool };
+
+    /// What is still to be written where the records from this number on are these.
+    ghost to_write: { Self → ℕ → Bundle → Output };
+
+    /// Whether records of this kind are taken.
+    fn takes(kind: Kind) -> bool
+        ensures { result ≡ kinds kind };
+
+    /// Takes the record of this number, whose head the reader just gave, and gives the reader back. A refusal is not written yet.
+    fn turn<S: Source, K: Sink>(
+        &mut self,
+        alloc: Global,
+        number: u32,
+        head: Head,
+        reader: BundleReader<S>,
+        sink: &mut K,
+    ) -> (BundleReader<S>, Result<(), Stop>)
+        requires ready { IsReady head reader }
+        requires taken { kinds head.kind ≡ true }
+        ensures steps { Steps style (option_map (to_write self.old number) (coming (Record head) reader)) (option_map (to_write self.new (number + 1)) result.0.ahead) result.1 (K.taken sink.old) (K.taken sink.new) }
+        ensures on { OnOk result.1 (GoesOn reader result.0) }
+        ensures stops { Stops reader.faults result.0.faults (K.faults sink.old) (K.faults sink.new) result.1 }
+        ensures same_source { result.0.name ≡ reader.name }
+        ensures same_sink { K.name sink.new ≡ K.name sink.old };
+
+    /// A fault in a record's place ends the command.
+    ghost at_fault: { (s : Self) (k : ℕ) (fault : RecordFault) → to_write s k (only_fault fault) ≡ refused style (broken fault) };
+
+    /// Of the other records Notes are passed over, and nothing else has a place.
+    ghost at_other: { (s : Self) (k : ℕ) (item : Item) (more : Bundle) → kinds item.kind ≡ false → to_write s k (before_bundle item more) ≡ other_output style item (to_write s (k + 1) more) };
+}
+
+// One turn.
+fn one_turn<T: Turns, S: Source, K: Sink>(
+    alloc: Global,
+    turns: &mut T,
+    number: u32,
+    head: Head,
+    reader: BundleReader<S>,
+    sink: &mut K,
+) -> (BundleReader<S>, Result<(), Stop>)
+    requires { IsReady head reader }
+    ensures steps { Steps T.style (option_map (T.to_write turns.old number) (coming (Record head) reader)) (option_map (T.to_write turns.new (number + 1)) result.0.ahead) result.1 (K.taken sink.old) (K.taken sink.new) }
+    ensures on { OnOk result.1 (GoesOn reader result.0) }
+    ensures stops { Stops reader.faults result.0.faults (K.faults sink.old) (K.faults sink.new) result.1 }
+    ensures same_source { result.0.name ≡ reader.name }
+    ensures same_sink { K.name sink.new ≡ K.name sink.old }
+{
+    if T::takes(head.kind) {
+        turns.turn(alloc, number, head, reader, sink)
+    } else {
+        pass_other(alloc, head, reader)
+    }
+}
+
+/// A turn for each record of a body, from this number on, to the end of the bundle. It gives the reader back. A refusal is not
+/// written yet, and nothing that is written at the end.
+pub fn run_body<T: Turns, S: Source, K: Sink>(
+    alloc: Global,
+    turns: &mut T,
+    number: u32,
+    begun: Next,
+    reader: BundleReader<S>,
+    sink: &mut K,
+) -> (BundleReader<S>, Result<u32, Stop>)
+    requires ready { MayGo begun reader }
+    requires few { number + turns_left begun reader.may_follow ≤ 1048576 }
+    ensures steps { Steps T.style (option_map (T.to_write turns.old number) (coming begun reader)) (at_number (λ k. T.to_write turns.new k nothing) result.1) result.1 (K.taken sink.old) (K.taken sink.new) }
+    ensures ended { OnOk result.1 (IsAtEnd result.0.left) }
+    ensures stops { Stops reader.faults result.0.faults (K.faults sink.old) (K.faults sink.new) result.1 }
+    ensures same_source { result.0.name ≡ reader.name }
+    ensures same_sink { K.name sink.new ≡ K.name sink.old }
+{
+    let mut reader = reader;
+    let mut next = begun;
+    let mut at = number;
+    'records: loop {
+        let head = match next {
+            Next::Record(head) => head,
+            Next::End => return (reader, Ok(at)),
+            Next::Broken(fault) => return (reader, Err(refuse_fault(alloc, fault))),
+        };
+        let (back, turned) = one_turn(alloc, turns, at, head, reader, sink);
+        reader = back;
+        if let Err(stop) = turned {
+            return (reader, Err(stop));
+        }
+        at += 1;
+        next = match next_of(&mut reader) {
+            Ok(next) => next,
+            Err(halt) => return (reader, Err(Stop::Halted(halt))),
+        };
+    }
+}

@@ -1,0 +1,9 @@
+//! The words of lines, the verdict and the outcomes of samples; and the records of samples.
+
+mod outcomes;
+mod records;
+mod verdicts;
+
+pub use outcomes::{malformed_text, outcome_text, value_text};
+pub use records::sample_record;
+pub use verdicts::no_text;

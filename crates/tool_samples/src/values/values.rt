@@ -1,0 +1,78 @@
+ghost use Rattle.std.specs.Prelude.{◌≡◌};
+ghost use Rattle.projection_laws.specs.Premises.{IsValid};
+
+use crate::values::writing::write_value;
+use std::alloc::Global;
+use tool_runs::output::{Stop, Turns, payload_of};
+use type_trees::XType;
+use xt_io::{BundleReader, Head, Kind, Sink, Source};
+use xt_shapes::Rep;
+
+/// A sample for each JSON value of a type, in a representation.
+#[derive(Drop)]
+pub struct Values {
+    ty: XType,
+    rep: Rep,
+    ghost valid: { IsValid ty },
+}
+
+impl Values {
+    pub fn new(ty: XType, rep: Rep) -> Values
+        requires { IsValid ty }
+        ensures ty { result.ty ≡ ty }
+        ensures rep { result.rep ≡ rep }
+    {
+        Values { ty, rep }
+    }
+}
+
+impl Turns for Values {
+    ghost use Rattle.type_trees.specs.View.{tree};
+    ghost use Rattle.xt_io.specs.declared.Kind.TheVariants.{Json};
+    ghost use Rattle.tool_runs.specs.declared.output.ending.Style.TheVariants.{Records};
+    ghost use Rattle.tool_runs.specs.output.Outputs.{run, taking, finished, same_kind};
+    ghost use Rattle.tool_runs.proofs.OfOutput.Turning.{run_at_fault, run_at_other};
+    ghost use Rattle.tool_samples.specs.lines.Lines.{write_turn};
+
+    ghost style = { Records };
+
+    ghost kinds = { λ kind. same_kind kind Json };
+
+    ghost to_write = { λ s k bundle. run Records (taking Json (write_turn s.rep (tree s.ty))) (λ u. finished) tt k bundle };
+
+    fn takes(kind: Kind) -> bool {
+        match kind {
+            Kind::Json => true,
+            Kind::Object | Kind::Idl | Kind::Sample | Kind::Note => false,
+        }
+    }
+
+    fn turn<S: Source, K: Sink>(
+        &mut self,
+        alloc: Global,
+        number: u32,
+        head: Head,
+        reader: BundleReader<S>,
+        sink: &mut K,
+    ) -> (BundleReader<S>, Result<(), Stop>) {
+        let mut reader = reader;
+        match payload_of(alloc, head, &mut reader) {
+            Err(stop) => (reader, Err(stop)),
+            Ok(payload) => {
+                let written = write_value(
+                    alloc,
+                    &self.ty,
+                    self.rep,
+                    number,
+                    payload.octets(),
+                    sink,
+                );
+                (reader, written)
+            }
+        }
+    }
+
+    ghost at_fault = { λ s k fault. run_at_fault Records (taking Json (write_turn s.rep (tree s.ty))) (λ u. finished) tt k fault };
+
+    ghost at_other = { λ s k item more other. run_at_other Records Json (write_turn s.rep (tree s.ty)) (λ u. finished) tt k item more other };
+}

@@ -1,9 +1,0 @@
-//! The command that serves objects to peers: a registry of the objects, and workers with a door and a pass each.
-#![tactic(auto)]
-
-mod doors;
-mod lines;
-mod registering;
-mod serving;
-
-pub use serving::{serve_at, serve_pool};

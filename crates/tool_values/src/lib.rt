@@ -1,8 +1,0 @@
-//! JSON values of a body, each written as the record of its sample.
-#![tactic(auto)]
-
-mod refusals;
-mod values;
-mod writing;
-
-pub use values::Values;

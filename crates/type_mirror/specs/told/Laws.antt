@@ -1,0 +1,22 @@
+-- What a push tells where its peer answers by one session, and what two pushes tell, one each way (own).
+use Rattle.std.specs.Prelude.{◌≡◌, ℕ, List, ◌++◌}
+use Rattle.std.specs.List.{All}
+use Rattle.type_lookup.specs.declared.messages.messages.Fetched.{Fetched}
+use Rattle.type_lookup.specs.declared.messages.messages.Message.{Message}
+use Rattle.type_registry.specs.Passed.{PassView, known}
+use Rattle.type_object.specs.visits.Visits.{Known}
+use Rattle.lookup_service.specs.States.{Replied}
+use Rattle.type_mirror.specs.declared.told.told.Told.{Told}
+use Rattle.type_mirror.specs.told.Rounds.{pushed, requests_of, done}
+use Rattle.type_mirror.specs.told.Pushes.{MayPush}
+use Rattle.type_mirror.specs.told.Tells.{IsTold, IsGood, HasAll}
+
+-- Where the replies to a push of these objects are those of one session, what is told holds of the session's last state.
+abbrev pub HoldsLast : (List ℕ → List ℕ) → List Fetched → List Message → List Told → Type 0
+HoldsLast name objects messages told =
+    (entry last : PassView) → MayPush name objects → (pushed name objects messages).end ≡ done told → Replied name entry (requests_of name objects messages) messages last → IsTold (known last) objects told
+
+-- Where each side knows what it pushed, and each push told neither a clash nor a want of room, both sides know all that was pushed.
+abbrev pub EvensOut : Known → Known → List Fetched → List Fetched → List Told → List Told → Type 0
+EvensOut known_a known_b from_a from_b told_b told_a =
+    HasAll known_a from_a → HasAll known_b from_b → IsTold known_b from_a told_b → All IsGood told_b → IsTold known_a from_b told_a → All IsGood told_a → HasAll known_a (from_a ++ from_b) × HasAll known_b (from_a ++ from_b)

@@ -1,0 +1,5 @@
+//! What was read in cells that are set once, as a value that threads may share.
+
+mod knowledge;
+
+pub use knowledge::Knowledge;

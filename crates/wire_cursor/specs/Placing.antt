@@ -1,7 +1,0 @@
--- A number with its place, which the cursor counts from the first octet of all.
-use Rattle.std.specs.Prelude.{ℕ, ◌-◌}
-use Rattle.wire_cursor.specs.Standing.{Standing}
-use Rattle.wire_cursor.specs.declared.reading.Placed.{Placed}
-
-abbrev pub placed_view : Standing → Placed → ℕ × ℕ
-placed_view a p = (p.at - a.origin, p.number)

@@ -1,8 +1,0 @@
-//! Numbers and texts as octets: what both representations of DDS-XTypes 1.3, 7.4 read alike but for their greatest alignment.
-#![tactic(auto)]
-
-mod scalars;
-mod texts;
-
-pub use scalars::{read_enum, read_mask, read_presence, read_prim};
-pub use texts::read_text;

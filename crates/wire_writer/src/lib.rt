@@ -1,8 +1,0 @@
-//! What samples are written with: octets and numbers that go to a sink, aligned from an origin.
-#![tactic(auto)]
-
-mod digits;
-mod writer;
-
-pub use digits::{octets_of, raw};
-pub use writer::Writer;

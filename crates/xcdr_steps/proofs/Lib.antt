@@ -1,0 +1,4 @@
+pub mod OfOne
+pub mod OfReading
+pub mod OfScalars
+pub mod OfTwo

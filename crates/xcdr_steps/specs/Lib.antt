@@ -1,0 +1,5 @@
+pub mod index
+pub mod one
+pub mod reading
+pub mod scalars
+pub mod two

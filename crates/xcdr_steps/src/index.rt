@@ -1,0 +1,5 @@
+//! The members of a structure by their ids, found without going through all of them.
+
+mod index;
+
+pub use index::MemberIndex;

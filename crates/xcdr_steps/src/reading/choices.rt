@@ -1,0 +1,51 @@
+// Which case of a union is read.
+ghost use Rattle.std.specs.Prelude.{◌≡◌, length};
+ghost use Rattle.type_trees.specs.Bridge.{cases_shape};
+ghost use Rattle.xcdr_steps.specs.reading.Cases.{choice, choice_with, IsInside};
+
+use crate::reading::places::find_case;
+use type_trees::{Case, select};
+
+/// What stands for a union's case.
+#[derive(Clone, Copy, Debug)]
+pub enum Choice {
+    /// No case is selected, and nothing is left that would be one.
+    NoCase,
+    /// The reader alone selects a case, or octets are left for a case that it does not select.
+    OneSided,
+    /// The case that is selected is not there. No valid union has such a case.
+    Missing,
+    /// The case with this index.
+    Case(usize),
+}
+
+fn case_with(cases: &[Case], id: u32) -> Choice
+    ensures choice { result ≡ choice_with (cases_shape cases.now) id }
+    ensures within { IsInside (length cases.now) result }
+{
+    match find_case(cases, id) {
+        Some(at) => Choice::Case(at),
+        None => Choice::Missing,
+    }
+}
+
+/// The case that the number selects, where a union is `filled` by it and the region has ended or not.
+pub fn choose(cases: &[Case], number: i128, filled: bool, ended: bool) -> Choice
+    ensures choice { result ≡ choice filled ended (cases_shape cases.now) number }
+    ensures within { IsInside (length cases.now) result }
+{
+    match select(cases, number) {
+        Some(id) => {
+            if filled && ended {
+                return Choice::OneSided;
+            }
+            case_with(cases, id)
+        }
+        None => {
+            if filled && !ended {
+                return Choice::OneSided;
+            }
+            Choice::NoCase
+        }
+    }
+}

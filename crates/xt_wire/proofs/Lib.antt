@@ -1,0 +1,5 @@
+pub mod OfCursor
+pub mod OfNumbers
+pub mod OfSeen
+pub mod OfStreams
+pub mod OfWriter

@@ -1,0 +1,4 @@
+pub mod cursor
+pub mod numbers
+pub mod streams
+pub mod writer
