@@ -1,6 +1,6 @@
-mod Allowed
-mod Entered
-mod Reversed
-mod Seated
-mod Told
-mod Worked
+pub mod Allowed
+pub mod Entered
+pub mod Reversed
+pub mod Seated
+pub mod Told
+pub mod Worked
