@@ -1,4 +1,4 @@
--- The pairs of cases that the labels of some cases select.
+-- The pairs of cases that the labels of some cases select (DDS-XTypes 1.3, 7.2.4.4).
 use Rattle.std.specs.Prelude.{ℕ, Bool, ◌==◌, ◌&&◌}
 use Rattle.xt_shapes.specs.Lists.{has}
 use Rattle.xt_shapes.specs.Shape.{Cases, case_heads}

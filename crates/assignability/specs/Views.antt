@@ -1,4 +1,4 @@
--- What the program's failures and verdicts say: no failure, or a rule with its path.
+-- What the program's failures and verdicts say: no failure, or a rule with its path (this profile's own).
 use Rattle.std.specs.Prelude.{ℕ, Bool, ◌&&◌, ◌||◌, not, Option, Some, None}
 use Rattle.std.specs.Option.{option_map}
 use Rattle.assignability.specs.declared.verdict.Failure.{Failure}

@@ -1,4 +1,4 @@
--- The cells after a list of events. Cells that are set once are how this profile shares types; the standard leaves that to each product.
+-- The cells after a list of events (this profile's own: the standard leaves it to each product how types are shared).
 use Rattle.std.specs.Prelude.{◌≡◌, ◌≢◌, ℕ, ◌<◌, List, [], ◌∷◌, ◌++◌, Bool, true, false, ◌&&◌, nat_eq, Option, None, Some, ◌⊎◌}
 use Rattle.std.specs.Str.{bytes_eq}
 use Rattle.type_trees.specs.declared.types.HashId.{HashId}

@@ -1,4 +1,4 @@
--- A find in a list of events: gets of an identifier's probed cells in order, among which other events may stand.
+-- A find in a list of events: gets of an identifier's probed cells in order, among which other events may stand (this profile's own).
 use Rattle.std.specs.Prelude.{◌≡◌, ℕ, suc, ◌≤◌, List, [], ◌∷◌, Bool, true, false, Option, None, Some, take, slice_get}
 use Rattle.type_trees.specs.declared.types.HashId.{HashId}
 use Rattle.type_trees.specs.Ids.{same_id}

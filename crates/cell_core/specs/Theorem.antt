@@ -1,4 +1,4 @@
--- What holds of every list of lawful events.
+-- What holds of every list of lawful events (this profile's own).
 use Rattle.std.specs.Prelude.{◌≡◌, ℕ, List, [], ◌++◌, Option, Some, take}
 use Rattle.type_trees.specs.declared.types.HashId.{HashId}
 use Rattle.cell_core.specs.declared.event.Event.{Event}

@@ -1,4 +1,4 @@
--- Worked examples, by computation.
+-- Worked cells and the probes of identifiers, by computation (this profile's own).
 use Rattle.std.specs.Prelude.{◌≡◌, ℕ, List, [], ◌∷◌, None, Some}
 use Rattle.std.proofs.Common.{refl}
 use Rattle.type_trees.specs.declared.types.HashId.{HashId}

@@ -1,4 +1,4 @@
--- The value that names reach through structures.
+-- The value that names reach through structures (this profile's own).
 use Rattle.std.specs.Prelude.{ℕ, List, [], ◌∷◌, Bool, cond, Option, Some, None, bytes_eq}
 use Rattle.type_trees.specs.Trees.{Tree, prim, str, enumeration, bitmask, sequence, array, map_of, structure, union, alias, Members, no_members, member}
 use Rattle.xt_shapes.specs.Vals.{Val, struct_of, Slot as Body, absent, present, Slots, no_slots, one_slot}

@@ -1,4 +1,4 @@
--- Worked examples, checked by computation.
+-- Worked values in JSON, what texts are refused, and parts that names reach, checked by computation (this profile's own).
 use Rattle.std.specs.Prelude.{◌≡◌, ℕ, ℤ, pos, negsuc, List, [], ◌∷◌, Bool, true, false, Some, None, Ok, Err, codes}
 use Rattle.std.proofs.Common.{refl}
 use Rattle.hex.specs.Hex.{encode_with, decode_pairs}

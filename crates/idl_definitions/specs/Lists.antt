@@ -1,5 +1,5 @@
--- One or more parts of a definition. A part is read by a step from what was gathered before it. The number bounds the turns: each part has an
--- octet at least.
+-- One or more parts of a definition, each read by a step from what was gathered before it (this profile's own). The number bounds the turns:
+-- each part has an octet at least.
 use Rattle.std.specs.Prelude.{ℕ, zero, suc, if◌then◌else◌, Option, Some, None, codes}
 use Rattle.idl_input.specs.Input.{Input, Parser, ◌>>=◌, pure, syntax, eat, turns}
 

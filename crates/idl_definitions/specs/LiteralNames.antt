@@ -1,4 +1,4 @@
--- The literals of an enumeration by their names: each name that is known leads to the place of the first literal that has it.
+-- The literals of an enumeration by their names: each name that is known leads to the place of the first literal that has it (this profile's own).
 use Rattle.std.specs.Prelude.{◌≡◌, ℕ, ◌+◌, if◌then◌else◌, List, [], ◌∷◌, Option, Some, None}
 use Rattle.type_trees.specs.declared.types.Name.{Name}
 use Rattle.type_trees.specs.declared.types.Name.TheVariants as name_of

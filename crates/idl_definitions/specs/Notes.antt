@@ -1,4 +1,4 @@
--- What annotations say of a definition, a literal, a flag or a discriminator.
+-- What annotations say of a definition, a literal, a flag or a discriminator (DDS-XTypes 1.3, 7.3.1.2).
 use Rattle.std.specs.Prelude.{false, true, min, List, [], ◌∷◌, Some, None}
 use Rattle.xt_shapes.specs.declared.leaves.Ext.{Ext}
 use Rattle.xt_annotations.specs.declared.notes.Placed.{Placed}

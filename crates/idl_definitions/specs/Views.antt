@@ -1,4 +1,4 @@
--- What the program's values of a definition stand for.
+-- What the program's values of a definition stand for (this profile's own).
 use Rattle.std.specs.Prelude.{map, None}
 use Rattle.xt_shapes.specs.declared.leaves.Ext.{Ext}
 use Rattle.xt_shapes.specs.declared.leaves.Primitive.TheVariants.{Boolean, Char8, Int32}

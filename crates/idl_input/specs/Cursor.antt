@@ -1,4 +1,4 @@
--- What a `Tokens` shows, and what it keeps ready.
+-- What a `Tokens` shows, and what it keeps ready (this profile's own).
 use Rattle.std.specs.Prelude.{◌≡◌, ◌≤◌, length}
 use Rattle.idl_tokens.specs.Tokens.{token, skip}
 use Rattle.idl_input.specs.declared.tokens.Tokens.TheInside.{Inside}

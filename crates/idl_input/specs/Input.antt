@@ -1,4 +1,4 @@
--- What the grammar reads from, and the steps that every rule is made of.
+-- What the grammar reads from, and the steps that every rule is made of (this profile's own).
 use Rattle.std.specs.Prelude.{◌≡◌, ◌≢◌, ℕ, zero, suc, ◌+◌, ◌-◌, Bool, true, false, not, ◌&&◌, ◌||◌, if◌then◌else◌, List, [], ◌∷◌, ◌++◌, length, take, drop, Option, Some, None, Result, Ok, Err, is_some, refl, codes}
 use Rattle.std.specs.Coded.{Coded, code_by, coded×, coded_ℕ, coded_list}
 use Rattle.idl_tokens.specs.declared.tokens.TokenKind.{TokenKind}

@@ -1,4 +1,4 @@
--- The keywords.
+-- The keywords that are known, and what each begins where a definition or a type may stand (OMG IDL 4.2, 7.4).
 use Rattle.std.specs.Prelude.{ℕ, Bool, true, false, if◌then◌else◌, List, [], ◌∷◌, map, Option, Some, None, is_some}
 use Rattle.idl_tokens.specs.Classes.{Text}
 use Rattle.idl_tokens.specs.Tables.{beside}

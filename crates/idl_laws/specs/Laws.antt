@@ -1,4 +1,4 @@
--- The law of printed texts.
+-- The law of printed texts: what is printed of a printable list declares the same list (this profile's own).
 use Rattle.std.specs.Prelude.{◌≡◌, Ok}
 use Rattle.idl_types.specs.State.{Declared}
 use Rattle.idl_printer.specs.Lines.{printed}

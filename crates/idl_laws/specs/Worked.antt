@@ -1,4 +1,4 @@
--- A worked list that is printable, and names that are not apart, by computation.
+-- A worked list that is printable, and names that are not apart, by computation (this profile's own).
 use Rattle.std.specs.Prelude.{◌≡◌, ℕ, negsuc, true, false, List, [], ◌∷◌, Some, codes, refl}
 use Rattle.std.specs.Fmt.{digits}
 use Rattle.std.proofs.lemmas.Bool.{leb-true}

@@ -1,4 +1,5 @@
-//! The law that ties the reader of IDL texts to the printer: a printed text declares the types that it was printed from.
+//! The laws that tie the reader of IDL texts to the printer: a printed text declares the types that it was printed from, and in `parsed`,
+//! what a text declares can be printed.
 #![tactic(auto)]
 
 ghost use Rattle.idl_laws.specs.Laws as law;

@@ -1,4 +1,4 @@
--- The parts of definitions: members, cases, literals and flags.
+-- The parts of definitions: members, cases, literals and flags (own: the standard leaves the layout open).
 use Rattle.std.specs.Prelude.{ℕ, zero, suc, Bool, ℤ, pos, negsuc, if◌then◌else◌, nat_le, List, [], ◌∷◌, ◌++◌, codes, decimal}
 use Rattle.std.specs.Fmt.{signed_decimal}
 use Rattle.std.specs.Ordering.{int_eq}

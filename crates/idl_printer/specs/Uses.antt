@@ -1,4 +1,4 @@
--- Types where they are used, and declarators.
+-- Types where they are used, and declarators (own: the standard leaves the layout open).
 use Rattle.std.specs.Prelude.{ℕ, List, [], ◌∷◌, ◌++◌, Option, Some, None, codes, decimal}
 use Rattle.type_trees.specs.Trees.{Tree, prim, str, sequence, map_of, array, enumeration, bitmask, structure, union, alias}
 use Rattle.idl_printer.specs.Words.{prim_text, try_text, string_text, bound_text}

@@ -1,4 +1,4 @@
--- Worked lines, by computation.
+-- Worked lines of printed texts, by computation (this profile's own).
 use Rattle.std.specs.Prelude.{◌≡◌, ℕ, ℤ, pos, negsuc, Bool, true, false, List, [], ◌∷◌, Some, codes, refl}
 use Rattle.std.specs.Fmt.{digits}
 use Rattle.xt_shapes.specs.declared.leaves.Primitive.TheVariants as prims

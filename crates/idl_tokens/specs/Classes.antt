@@ -1,4 +1,4 @@
--- Kinds of octets in an IDL text.
+-- Kinds of octets in an IDL text (OMG IDL 4.2, 7.2).
 use Rattle.std.specs.Prelude.{ℕ, ◌+◌, Bool, not, ◌&&◌, ◌||◌, ◌==◌, nat_le, List, drop, length}
 use Rattle.std.specs.Char.{is_ascii_digit, is_ascii_hexdigit, is_ascii_alphanumeric}
 use Rattle.std.specs.List.{prefix_len}

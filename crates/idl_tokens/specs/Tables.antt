@@ -1,4 +1,4 @@
--- Tables of words, each with what stands beside it.
+-- Tables of words, each with what stands beside it (this profile's own).
 use Rattle.std.specs.Prelude.{if◌then◌else◌, List, [], ◌∷◌, Option, Some, None}
 use Rattle.std.specs.Str.{bytes_eq}
 use Rattle.idl_tokens.specs.Classes.{Text}

@@ -1,4 +1,4 @@
--- Worked examples of tokens, by computation.
+-- Worked examples of tokens, by computation (OMG IDL 4.2, 7.2).
 use Rattle.std.specs.Prelude.{◌≡◌, negsuc, Some, None, codes, refl, []}
 use Rattle.idl_tokens.specs.declared.tokens.TokenKind.TheVariants.{Word, Number, Character, Mark, End, Bad}
 use Rattle.idl_tokens.specs.Numerals.{is_numeral, magnitude, unsigned_in, signed_32}

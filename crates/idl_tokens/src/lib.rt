@@ -1,5 +1,5 @@
 //! The tokens of an IDL text (OMG IDL 4.2, 7.2, in this profile): words, numbers, characters, texts and marks, with blanks and comments
-//! between them.
+//! between them; in `names` what names mean in their scopes, and sets of names.
 #![tactic(auto)]
 
 mod classes;

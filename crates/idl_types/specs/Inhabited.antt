@@ -1,4 +1,4 @@
--- Which of the open modules may hold types, in themselves or in modules in them.
+-- Which of the open modules may hold types, in themselves or in modules in them (this profile's own).
 use Rattle.std.specs.Prelude.{◌≡◌, ℕ, ◌<◌, ◌≤◌, List, length, slice_get, Some}
 use Rattle.idl_tokens.specs.Classes.{Text}
 use Rattle.idl_tokens.specs.declared.names.scopes.Meaning.TheVariants as meaning_of

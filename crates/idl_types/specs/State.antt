@@ -1,4 +1,4 @@
--- What stands at a place in a text: the types and names that are declared, and the modules that are open.
+-- What stands at a place in a text: the types and names that are declared, and the modules that are open (this profile's own).
 use Rattle.std.specs.Prelude.{ℕ, Bool, false, true, List, [], ◌∷◌, ◌++◌, map, length, take, ◌-◌}
 use Rattle.type_trees.specs.declared.types.Named.{Named}
 use Rattle.type_trees.specs.Trees.{Tree}

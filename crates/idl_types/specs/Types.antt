@@ -1,4 +1,4 @@
--- Types where they are used.
+-- Types where they are used (OMG IDL 4.2, 7.4.1).
 use Rattle.std.specs.Prelude.{◌≡◌, ◌≢◌, Result, ℕ, zero, suc, ◌+◌, Bool, true, false, not, ◌&&◌, ◌||◌, if◌then◌else◌, List, [], ◌∷◌, ◌++◌, length, Option, Some, None, Ok, Err, codes}
 use Rattle.xt_shapes.specs.declared.leaves.Primitive.{Primitive}
 use Rattle.xt_shapes.specs.declared.leaves.Try.{Try}

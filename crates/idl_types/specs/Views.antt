@@ -1,4 +1,4 @@
--- What the program's values stand for.
+-- What the program's values stand for (this profile's own).
 use Rattle.std.specs.Prelude.{map}
 use Rattle.idl_types.specs.declared.names.Scoped.{Scoped}
 use Rattle.idl_types.specs.declared.reader.Reader.{Reader}

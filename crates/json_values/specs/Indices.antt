@@ -1,4 +1,4 @@
--- Literals and members that are looked up by an index.
+-- Literals and members that are looked up by an index (this profile's own).
 use Rattle.std.specs.Prelude.{◌≡◌, ℕ, ℤ, List, [], ◌∷◌, cond, Option, Some, None, String, bytes_eq, option_map, string_bytes}
 use Rattle.std.specs.BTreeMap.{BTreeMap, get, get_by_text}
 use Rattle.std.specs.BTreeSet.{BTreeSet, contains_text}

@@ -1,4 +1,4 @@
--- The members of a structure's JSON, by positions that are listed under their names.
+-- The members of a structure's JSON, by positions that are listed under their names (this profile's own).
 use Rattle.std.specs.Prelude.{ℕ, List, [], ◌∷◌, Option, Some, slice_get}
 use Rattle.std.specs.Borrow.{Bor}
 use Rattle.serde_json.specs.Data as json

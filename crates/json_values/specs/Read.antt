@@ -1,4 +1,4 @@
--- The value that a JSON text means for a type, or its first fault.
+-- The value that a JSON text means for a type, or its first fault (this profile's own, over RFC 8259).
 use Rattle.std.specs.Prelude.{◌^◌, ℕ, ℤ, pos, List, [], ◌∷◌, length, Bool, false, not, ◌&&◌, ◌||◌, ◌==◌, cond, Option, Some, None, is_some, Result, Ok, Err, bytes_eq}
 use Rattle.std.specs.Int.{Width, w32, w64, from_be_bytes}
 use Rattle.std.specs.Str.{is_utf8}

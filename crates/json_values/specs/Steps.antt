@@ -1,4 +1,4 @@
--- Where a reading ends: with a value, or with a rule and the steps to its place.
+-- Where a reading ends: with a value, or with a rule and the steps to its place (this profile's own).
 use Rattle.std.specs.Prelude.{◌≡◌, ℕ, [], ◌∷◌, length, Result, Ok, Err, IfErr}
 use Rattle.xt_shapes.specs.declared.leaves.Step.{Step}
 use Rattle.json_values.specs.declared.faults.JsonRule.{JsonRule}

@@ -1,4 +1,4 @@
--- The JSON of a value.
+-- The JSON of a value (this profile's own, over RFC 8259).
 use Rattle.std.specs.Prelude.{ℕ, ℤ, pos, negsuc, ◌==◌, List, [], ◌∷◌, cond, Option, Some}
 use Rattle.std.specs.Ordering.{int_eq}
 use Rattle.std.specs.Int.{Width, w32, w64, to_be_bytes}

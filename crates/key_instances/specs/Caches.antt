@@ -1,4 +1,4 @@
--- What contracts see of a cache.
+-- What contracts see of a cache (this profile's own).
 use Rattle.std.specs.Prelude.{◌≤◌, ℕ, zero, suc, List, [], ◌∷◌, ◌++◌, length, map, All, Option, slice_get}
 use Rattle.std.specs.Option.{option_map, option_and_then}
 use Rattle.type_trees.specs.View.{val}

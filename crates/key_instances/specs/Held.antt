@@ -1,4 +1,4 @@
--- What an entry of the map holds.
+-- What an entry of a cache's map holds (this profile's own).
 use Rattle.std.specs.Prelude.{ℕ, List}
 use Rattle.type_trees.specs.declared.values.Value.{Value}
 use Rattle.key_instances.specs.declared.entry.Entry.{Entry}

@@ -1,4 +1,5 @@
-//! The last values of each key (this profile's own). The keys' octets and hashes come from `key_octets`.
+//! The last values of each key (this profile's own): what is kept of all puts is defined in `kept`, and the keys' octets and hashes (DDS-XTypes
+//! 1.3, 7.6.8) come from `octets`.
 #![tactic(auto)]
 
 mod entry;

@@ -1,4 +1,4 @@
--- Worked examples, checked by computation: rounds without an object.
+-- Worked examples, checked by computation: rounds without an object (this profile's own).
 use Rattle.std.specs.Prelude.{◌≡◌, ℕ, List, [], ◌∷◌}
 use Rattle.std.proofs.Common.{refl}
 use Rattle.type_trees.specs.declared.types.HashId.{HashId}

@@ -1,4 +1,4 @@
--- What a walk through known objects has learned so far.
+-- What a walk through known objects has learned so far (this profile's own).
 use Rattle.std.specs.Prelude.{◌≡◌, ℕ, suc, List, Bool, true, false, Option, None}
 use Rattle.type_trees.specs.declared.types.HashId.{HashId}
 use Rattle.type_object.specs.References.{is_among}

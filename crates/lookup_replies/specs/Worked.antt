@@ -1,4 +1,4 @@
--- Worked examples, checked by computation: replies to getTypes, pages of dependencies.
+-- Worked examples, checked by computation: replies to getTypes, pages of dependencies (this profile's own).
 use Rattle.std.specs.Prelude.{◌≡◌, ℕ, zero, suc, if◌then◌else◌, List, [], ◌∷◌, length, Some, None}
 use Rattle.std.proofs.Common.{refl}
 use Rattle.type_trees.specs.declared.types.HashId.{HashId}

@@ -1,5 +1,6 @@
-//! The service of TypeLookup (DDS-XTypes 1.3, 7.6.3.3): sessions that answer the requests that come over a link. Links with frames, the
-//! limit and how a session ends are this profile's own.
+//! The service of TypeLookup (DDS-XTypes 1.3, 7.6.3.3): sessions that answer the requests that come over a link, workers with a door each
+//! (`workers`), and a link in memory to the service itself (`link`). Links with frames, the limit, how a session ends and what is held of sessions
+//! one after another (`chains`) are this profile's own.
 #![tactic(auto)]
 
 pub mod chains;

@@ -1,4 +1,4 @@
--- A rule that fails at a node itself, as a failure with its path.
+-- A rule that fails at a node itself, as a failure with its path (this profile's own).
 use Rattle.std.specs.Prelude.{Option, []}
 use Rattle.std.specs.Option.{option_map}
 use Rattle.xcdr_model.specs.declared.verdict.Rule.{Rule}

@@ -1,4 +1,4 @@
--- Members and cases of which no more is known than what stands beside their types. The rules at a node read no more.
+-- Members and cases of which no more is known than what stands beside their types (this profile's own). The rules at a node read no more.
 use Rattle.std.specs.Prelude.{List, [], ◌∷◌}
 use Rattle.xt_shapes.specs.declared.leaves.Primitive.{Primitive}
 use Rattle.xt_shapes.specs.Shape.{Head, CaseHead, Shape, prim, Members, no_members, member, Cases, no_cases, one_case}

@@ -1,4 +1,5 @@
--- Parts of the rules of valid types that one loop tests, and the rules that shapes don't show.
+-- Parts of the rules of valid types that one loop tests, and the bases of V18, which shapes don't show (DDS-XTypes 1.3, 7.2.2.4; limits are
+-- this profile's own).
 use Rattle.std.specs.Prelude.{ℕ, ℤ, Bool, true, ◌&&◌, ◌||◌, nat_le, nat_lt, List, [], ◌∷◌, length}
 use Rattle.std.specs.Ordering.{int_eq}
 use Rattle.xt_shapes.specs.Lists.{has, all}

@@ -1,4 +1,5 @@
-//! The rules of valid types at one node of a type, and which numbers a primitive and an enumeration have. Nothing here takes memory.
+//! The rules of valid types at one node of a type, and which numbers a primitive and an enumeration have; in `distinct` whether the
+//! numbers of a list are distinct. Nothing here takes memory.
 #![tactic(auto)]
 
 pub mod distinct;

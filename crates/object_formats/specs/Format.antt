@@ -1,4 +1,4 @@
--- Formats: what is spelled and what is read, said once.
+-- Formats: what is spelled and what is read, said once (this profile's own).
 use Rattle.std.specs.Prelude.{ℕ, zero, suc, ◌+◌, ◌^◌, List, [], ◌∷◌, ◌++◌, Bool, true, false, cond, not, ◌&&◌, ◌||◌, Option, Some, None, Result, Ok, Err, length, take, drop, nat_lt, nat_le, ◌==◌}
 use Rattle.object_formats.specs.declared.faults.ObjectRule.{ObjectRule}
 use Rattle.object_formats.specs.declared.faults.ObjectRule.TheVariants.{Short, Padding, Delimiter, Text}

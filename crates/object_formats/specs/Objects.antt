@@ -1,4 +1,4 @@
--- Objects and identifiers, without where they lie in memory.
+-- Objects and identifiers, without where they lie in memory (DDS-XTypes 1.3, 7.3.4).
 use Rattle.std.specs.Prelude.{ℕ, ℤ, List, Option}
 use Rattle.xt_shapes.specs.declared.leaves.Primitive.{Primitive}
 use Rattle.type_trees.specs.declared.types.HashId.{HashId}

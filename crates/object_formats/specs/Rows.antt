@@ -1,4 +1,4 @@
--- Worked examples, by computation.
+-- Worked fields: an octet that is spelled and read, and why one is not, by computation (this profile's own).
 use Rattle.std.specs.Prelude.{◌≡◌, ℕ, List, [], ◌∷◌, ◌++◌, None, Ok, true, take}
 use Rattle.type_trees.specs.declared.types.Name.TheVariants.{Hashed}
 use Rattle.xt_shapes.specs.declared.leaves.Primitive.TheVariants.{Int32}

@@ -1,4 +1,4 @@
--- What the program's objects stand for, and what its readers give.
+-- What the program's objects stand for, and what its readers give (this profile's own).
 use Rattle.std.specs.Prelude.{◌≡◌, ℕ, ℤ, List, map, Result, Ok, Err}
 use Rattle.type_trees.specs.declared.types.Name.{Name}
 use Rattle.object_formats.specs.declared.faults.Fault.{Fault}

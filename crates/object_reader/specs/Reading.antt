@@ -1,4 +1,4 @@
--- What a reader does: it answers what a format reads from the octets ahead of it, and is then ahead of the rest.
+-- What a reader does: it answers what a format reads from the octets ahead of it, and is then ahead of the rest (this profile's own).
 use Rattle.std.specs.Prelude.{Result}
 use Rattle.object_formats.specs.declared.faults.ObjectFault.{ObjectFault}
 use Rattle.object_formats.specs.Format.{Format, Spot, spot}

@@ -1,4 +1,4 @@
--- Laws of the walk: what an identifier stands for doesn't depend on where it is met.
+-- Laws of the walk through a pool: what an identifier stands for doesn't depend on where it is met (this profile's own).
 use Rattle.std.specs.Prelude.{◌≡◌, ℕ, List, [], true, All, Some, Ok}
 use Rattle.type_trees.specs.declared.types.HashId.{HashId}
 use Rattle.type_trees.specs.Trees.{Tree}

@@ -1,4 +1,4 @@
--- What the code's answers say of the walk.
+-- What the code's answers say of the walk (this profile's own).
 use Rattle.std.specs.Prelude.{◌≡◌, ℕ, ◌≤◌, List, [], ◌∷◌, map, Result, Ok, Err, length}
 use Rattle.xt_shapes.specs.declared.leaves.Step.{Step}
 use Rattle.type_trees.specs.declared.types.HashId.{HashId}

@@ -1,4 +1,5 @@
--- Worked walks, by computation. The identifiers are made up: the walk takes what the pool says.
+-- Worked walks, by computation (DDS-XTypes 1.3, 7.3.4; limits are this profile's own). The identifiers are made up: the walk takes what the
+-- pool says.
 use Rattle.std.specs.Prelude.{◌≡◌, ℕ, suc, List, [], ◌∷◌, false, None, Ok, Err}
 use Rattle.std.proofs.Common.{refl}
 use Rattle.xt_shapes.specs.declared.leaves.Ext.TheVariants.{Final}

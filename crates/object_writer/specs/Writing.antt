@@ -1,4 +1,4 @@
--- What a writer does: it appends what a format spells at the place that it has come to.
+-- What a writer does: it appends what a format spells at the place that it has come to (this profile's own).
 use Rattle.std.specs.Prelude.{◌≡◌, ℕ, List, ◌++◌, length, Result, IfOk}
 use Rattle.xt_lists.specs.declared.memory.OutOfMemory.{OutOfMemory}
 use Rattle.object_formats.specs.Format.{Format}

@@ -1,4 +1,4 @@
--- What an examination answers.
+-- What an examination answers (this profile's own).
 use Rattle.std.specs.Prelude.{◌≡◌, ℕ, ◌<◌, List, length, None, Some, Result, Ok, Err}
 use Rattle.std.specs.Prelude.{◌+◌, ◌≤◌, ◌↔◌, IfOk}
 use Rattle.xt_lists.specs.declared.memory.OutOfMemory.{OutOfMemory}

@@ -1,4 +1,4 @@
--- A question asked of each pair in a pool, what the program's nodes and parts are under it, and the memo that goes with it.
+-- A question asked of each pair in a pool, what the program's nodes and parts are under it, and the memo that goes with it (this profile's own).
 use Rattle.std.specs.Prelude.{List, Bool, false, IsTrue, map}
 use Rattle.xt_shapes.specs.declared.leaves.Ext.{Ext}
 use Rattle.xt_shapes.specs.Lists.{is_some_and}

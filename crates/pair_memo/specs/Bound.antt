@@ -1,4 +1,4 @@
--- How many examinations there may be.
+-- How many examinations there may be (this profile's own).
 use Rattle.std.specs.Prelude.{ℕ, ◌*◌, ◌≤◌, List, All, length}
 use Rattle.xt_shapes.specs.declared.leaves.Rep.{Rep}
 use Rattle.xcdr_model.specs.declared.verdict.Policy.{Policy}

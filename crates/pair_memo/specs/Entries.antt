@@ -1,4 +1,4 @@
--- The entries of a memo: what was found of each pair of identifiers under a kind of examination.
+-- The entries of a memo: what was found of each pair of identifiers under a kind of examination (this profile's own).
 use Rattle.std.specs.Prelude.{ℕ, Bool, ◌&&◌, ◌==◌}
 use Rattle.type_trees.specs.Ids.{same_id}
 use Rattle.pair_memo.specs.declared.memo.Kind.{Kind}

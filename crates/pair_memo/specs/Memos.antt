@@ -1,4 +1,4 @@
--- What a memo may say.
+-- What a memo may say (this profile's own).
 use Rattle.std.specs.Prelude.{◌≡◌, List, Bool, true, false, None}
 use Rattle.std.specs.List.{IsDistinct, AllByRecursion}
 use Rattle.std.specs.Map.{keys_of}

@@ -1,5 +1,5 @@
 //! What an examination of pairs of identifiers keeps: which identifiers each side reaches, what was found of each pair, and how many
-//! pairs were examined.
+//! pairs were examined; in `nodes` what an identifier stands for in a pool.
 #![tactic(auto)]
 
 mod laws;

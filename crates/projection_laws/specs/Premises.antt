@@ -1,4 +1,4 @@
--- What the laws ask of the program's types.
+-- What the laws ask of the program's types (this profile's own).
 use Rattle.std.specs.Prelude.{◌≡◌, None, ◌⊎◌}
 use Rattle.xt_shapes.specs.declared.leaves.Rep.{Rep}
 use Rattle.type_trees.specs.declared.types.XType.{XType}

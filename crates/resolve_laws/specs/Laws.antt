@@ -1,4 +1,4 @@
--- What the complete objects of a valid type with names are, and that the type comes back from them.
+-- The laws that the complete objects of a valid type with names are well formed, and that the type comes back from them (this profile's own).
 use Rattle.std.specs.Prelude.{◌≡◌, [], true, Some, None, Ok}
 use Rattle.type_trees.specs.declared.types.HashId.{HashId}
 use Rattle.type_trees.specs.Trees.{Tree}

@@ -1,4 +1,4 @@
--- Types that have all their names, and whose numbers are those of the program's types.
+-- Types that have all their names, and whose numbers are those of the program's types (this profile's own).
 use Rattle.std.specs.Prelude.{ℕ, ◌^◌, ℤ, Bool, true, false, ◌&&◌, nat_lt}
 use Rattle.xt_shapes.specs.Lists.{all}
 use Rattle.xt_shapes.specs.Typing.{in_range}

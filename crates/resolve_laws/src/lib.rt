@@ -1,4 +1,5 @@
-//! Laws of types and their objects: a valid type with names comes back from its complete objects.
+//! Laws of types and their objects: a valid type with names comes back from its complete objects, and in `parsed`, so does each type that an
+//! IDL text declares.
 #![tactic(auto)]
 
 mod laws;

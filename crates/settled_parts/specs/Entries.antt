@@ -1,4 +1,4 @@
--- The entries of a map, gathered as they come.
+-- The entries of a map, gathered as they come (DDS-XTypes 1.3, 7.2.2.7; the steps are own).
 use Rattle.std.specs.Prelude.{ℕ, cond, ◌||◌, List, Option, Some, None, map}
 use Rattle.xt_shapes.specs.declared.leaves.Try.{Try}
 use Rattle.xt_shapes.specs.Vals.{Val}

@@ -1,4 +1,4 @@
--- The items of a sequence or an array, gathered as they come.
+-- The items of a sequence or an array, gathered as they come (DDS-XTypes 1.3, 7.2.2.7; the steps are own).
 use Rattle.std.specs.Prelude.{ℕ, cond, ◌||◌, List, Option, Some, None, map}
 use Rattle.std.specs.Option.{option_map}
 use Rattle.xt_shapes.specs.declared.leaves.Try.{Try}

@@ -1,4 +1,4 @@
--- The slots of a structure, gathered as they come: in declared order, or by the index of the member.
+-- The slots of a structure, gathered as they come: in declared order, or by the index of the member (DDS-XTypes 1.3, 7.2.2.7; the steps are own).
 use Rattle.std.specs.Prelude.{ℕ, zero, suc, Bool, true, false, cond, ◌||◌, List, [], ◌∷◌, ◌++◌, Option, Some, None, map, set, is_some}
 use Rattle.std.specs.Option.{option_map}
 use Rattle.xt_shapes.specs.Shape.{Head, Shape, Members, no_members, member}

@@ -1,4 +1,4 @@
--- What the parts stand for.
+-- What the parts stand for (this profile's own).
 use Rattle.std.specs.Prelude.{Bool, Option, Some, None}
 use Rattle.std.specs.Option.{option_map}
 use Rattle.xt_shapes.specs.declared.leaves.Try.{Try}

@@ -1,4 +1,4 @@
--- A union's case, settled.
+-- A union's case, settled (DDS-XTypes 1.3, 7.2.2.7).
 use Rattle.std.specs.Prelude.{Bool, false}
 use Rattle.std.specs.Option.{option_map}
 use Rattle.type_trees.specs.View.{val}

@@ -1,4 +1,4 @@
--- Key octets and key hashes tell keys apart, and come through a projection.
+-- Laws: key octets and key hashes (DDS-XTypes 1.3, 7.6.8) tell keys apart, and come through a projection (this profile's own).
 use Rattle.std.specs.Prelude.{ℕ, List, nat_lt, Ok, ◌+◌, ◌*◌, ◌≤◌, ◌≡◌, ◌↔◌, ◌^◌, ◌<◌, length, IsTrue, ◌⊎◌}
 use Rattle.xt_shapes.specs.declared.leaves.Rep.{Rep}
 use Rattle.xt_shapes.specs.Lists.{all}

@@ -1,4 +1,4 @@
--- What follows from the rules of valid types alone.
+-- Laws: what follows from the rules of valid types alone (this profile's own).
 use Rattle.std.specs.Prelude.{IsTrue}
 use Rattle.xt_shapes.specs.Defaults.{default_of}
 use Rattle.xt_shapes.specs.NodeRules.{rules_hold}

@@ -1,4 +1,4 @@
--- What a reading gives: at most one outcome, of the reader's type, and not too large.
+-- Laws: a reading (DDS-XTypes 1.3, 7.4) gives at most one outcome, of the reader's type, and not too large (this profile's own).
 use Rattle.std.specs.Prelude.{◌≡◌, ℕ, ◌+◌, ◌*◌, ◌≤◌, Bool, List, length, nat_lt, Result, Ok, Err, IsTrue, ◌⊎◌, cond, ◌==◌}
 use Rattle.xt_shapes.specs.declared.leaves.Order.{Order}
 use Rattle.xt_shapes.specs.declared.leaves.Rep.{Rep}

@@ -1,4 +1,4 @@
--- What is written is a spelling, and is read again as what it was.
+-- Laws: what is written (DDS-XTypes 1.3, 7.4) is a spelling, and is read again as what it was (this profile's own).
 use Rattle.std.specs.Prelude.{◌≡◌, ℕ, ◌^◌, ◌<◌, false, List, length, Ok, IsTrue}
 use Rattle.xt_shapes.specs.declared.leaves.Order.{Order}
 use Rattle.xt_shapes.specs.declared.leaves.Rep.{Rep}

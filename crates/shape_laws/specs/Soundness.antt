@@ -1,4 +1,4 @@
--- A yes of the judge is sound for decoding. The types are valid, and nothing else is asked of them.
+-- Laws: a Yes of the judge (DDS-XTypes 1.3, 7.2.4) is sound for decoding; the types are valid, and nothing else is asked (this profile's own).
 use Rattle.std.specs.Prelude.{◌≡◌, ℕ, ◌+◌, true, false, List, [], ◌++◌, length, Ok, IsTrue, ◌⊎◌}
 use Rattle.xt_shapes.specs.declared.leaves.Order.{Order}
 use Rattle.xt_shapes.specs.declared.leaves.Rep.{Rep}

@@ -1,4 +1,4 @@
--- The judge's verdict: the first failure is none exactly where the reader's type is assignable.
+-- The law that the first failure is none exactly where the reader's type is assignable (DDS-XTypes 1.3, 7.2.4; the law is this profile's own).
 use Rattle.std.specs.Prelude.{◌≡◌, ◌↔◌, true, false, Some, None, IsTrue, ◌⊎◌}
 use Rattle.xt_shapes.specs.declared.leaves.Rep.{Rep}
 use Rattle.xt_shapes.specs.NodeRules.{rules_hold}

@@ -1,4 +1,4 @@
-//! The commands: what each makes of the bundle on its input.
+//! The commands that end without a net: what each makes of the bundle on its input; `make` reads none.
 #![tactic(auto)]
 
 mod judging;

@@ -1,4 +1,5 @@
-//! What the commands over a net have in common: the bundle that they read first, and how they end where the net failed.
+//! The commands over a net: those that ask a peer (`clients`) and the one that serves (`serving`), with what they have in common: the bundle
+//! that they read first, and how they end where the net failed.
 #![tactic(auto)]
 
 pub mod clients;

@@ -1,4 +1,4 @@
--- What the faults of a replay say.
+-- What the faults of a replay say (this profile's own).
 use Rattle.std.specs.Prelude.{◌≡◌, ℕ}
 use Rattle.xt_io.specs.declared.Item.{Item}
 use Rattle.xt_recorder.specs.declared.replayed.ReplayFault.{ReplayFault}

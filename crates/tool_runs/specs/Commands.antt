@@ -1,4 +1,4 @@
--- What a command writes that reads a bundle: its front, and then a body, or nothing behind the front.
+-- What a command writes that reads a bundle: its front, and then a body, or nothing behind the front (this profile's own).
 use Rattle.std.specs.Prelude.{ℕ, List, length, Result, Ok}
 use Rattle.xt_io.specs.declared.Item.{Item}
 use Rattle.xt_io.specs.Bundles.{Bundle}

@@ -1,4 +1,4 @@
--- How a command ends that stopped.
+-- How a command ends that stopped (this profile's own).
 use Rattle.std.specs.Prelude.{◌≡◌, ℕ, ◌≤◌, ◌⊎◌, List, Option, Result, Ok, Err, IsErrOf}
 use Rattle.xt_io.specs.Outside.{Rose}
 use Rattle.tool_runs.specs.declared.output.ending.Ending.{Ending}

@@ -1,4 +1,4 @@
-//! The front of a bundle: the types that its leading records declare, and what words name among them.
+//! The front of a bundle: its leading Object and Idl records, whole, and where its body begins (this profile's own).
 
 mod front;
 

@@ -1,4 +1,5 @@
-//! Runs of commands from the bundle on: the front, what its records come to, and the body, up to the last line.
+//! Runs of commands from the bundle on: the front (`front`), what its records come to, and the body, up to the last line. `output` says what a
+//! command writes and how it ends.
 #![tactic(auto)]
 
 mod closing;

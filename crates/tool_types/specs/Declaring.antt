@@ -1,4 +1,4 @@
--- What the records of a front declare, as the program holds it.
+-- What the records of a front declare, as the program holds it (this profile's own).
 use Rattle.std.specs.Prelude.{◌≡◌, ℕ, true, List, [], ◌∷◌, None, Result, Ok, Err}
 use Rattle.type_trees.specs.declared.types.Named.{Named}
 use Rattle.type_trees.specs.View.{tree}

@@ -1,4 +1,4 @@
-//! The types that a front declares, and the pool of their objects.
+//! The types that a front declares, and the pool of their objects; in `names` what words name among them.
 #![tactic(auto)]
 
 mod declaring;

@@ -1,4 +1,4 @@
--- What the program's references and commands stand for.
+-- What the program's references and commands stand for (this profile's own).
 use Rattle.std.specs.Prelude.{ℕ, List, Option}
 use Rattle.tool_words.specs.declared.references.Form.{Form}
 use Rattle.tool_words.specs.declared.references.Form.TheVariants as form

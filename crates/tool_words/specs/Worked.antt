@@ -1,4 +1,4 @@
--- Worked words, by computation.
+-- Worked words of command lines, by computation (this profile's own).
 use Rattle.std.specs.Prelude.{◌≡◌, ℕ, true, false, [], ◌∷◌, Some, None, codes, refl}
 use Rattle.hex.specs.Hex.{decode_pairs}
 use Rattle.xt_shapes.specs.declared.leaves.Rep.TheVariants.{Xcdr1, Xcdr2}

@@ -1,4 +1,4 @@
--- Members by index.
+-- Members by index, as the program looks for them by id (this profile's own).
 use Rattle.std.specs.Prelude.{◌≡◌, ◌≢◌, ℕ, ◌<◌, ◌≤◌, false, List, Option, Some, None, length, slice_get}
 use Rattle.type_trees.specs.declared.types.Member.{Member}
 use Rattle.type_trees.specs.Bridge.{members_shape}

@@ -1,4 +1,4 @@
--- Values in slots.
+-- Values in slots, by index (this profile's own).
 use Rattle.std.specs.Prelude.{ℕ, zero, suc, Option, Some, None}
 use Rattle.xt_shapes.specs.Vals.{Val, Slots, no_slots, one_slot, Slot, absent, present}
 

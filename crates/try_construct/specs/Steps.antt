@@ -1,4 +1,4 @@
--- The wholes that a projection builds, by the parts of both types.
+-- The wholes that a projection builds, by the parts of both types (DDS-XTypes 1.3, 7.2.4.1).
 use Rattle.std.specs.Prelude.{ℕ, ℤ, Bool, ◌&&◌, List, [], ◌∷◌, Option, map}
 use Rattle.std.specs.Option.{option_map}
 use Rattle.xt_shapes.specs.declared.leaves.Ext.{Ext}

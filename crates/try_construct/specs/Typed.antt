@@ -1,4 +1,4 @@
--- What a projection gives.
+-- What a projection gives: the value of a sample has the reader's type (this profile's own).
 use Rattle.std.specs.Prelude.{IsTrue}
 use Rattle.xt_shapes.specs.Shape.{Shape}
 use Rattle.xt_shapes.specs.Typing.{has_type}

@@ -1,4 +1,4 @@
--- When reading and writing frames may fail without a fault of the frames.
+-- When reading and writing frames may fail without a fault of the frames (this profile's own).
 use Rattle.std.specs.Prelude.{ℕ, ◌≤◌, Result, IsErrOf}
 use Rattle.xt_io.specs.Outside.{Rose}
 use Rattle.type_lookup.specs.declared.faults.FrameFault.{FrameFault}

@@ -1,4 +1,4 @@
--- Frames one after another.
+-- Frames one after another (this profile's own).
 use Rattle.std.specs.Prelude.{◌≡◌, ℕ, List, [], ◌∷◌, ◌++◌, None, Some}
 use Rattle.type_lookup.specs.declared.messages.messages.Message.{Message}
 use Rattle.type_lookup.specs.messages.Spelling.{frame_of, AreOctets}

@@ -1,4 +1,4 @@
--- Worked examples, checked by computation: frames, and what is none.
+-- Worked examples, checked by computation: frames, and what is none (this profile's own).
 use Rattle.std.specs.Prelude.{◌≡◌, ℕ, List, [], ◌∷◌, ◌++◌, Some}
 use Rattle.std.proofs.Common.{refl}
 use Rattle.type_lookup.specs.declared.messages.messages.Message.TheVariants.{GetTypes}

@@ -1,5 +1,5 @@
-//! TypeLookup over a link (DDS-XTypes 1.3, 7.6.3.3): the messages in frames, a length and a payload each. The frames are this profile's
-//! own.
+//! TypeLookup over a link (DDS-XTypes 1.3, 7.6.3.3): the messages in `messages`, and the frames that they come in, a length and a payload each.
+//! The frames are this profile's own.
 #![tactic(auto)]
 
 mod faults;

@@ -1,5 +1,5 @@
-//! Two registries made equal: a push of objects to a peer by putTypes, which is this profile's own, and getTypes (DDS-XTypes 1.3, 7.6.3.3),
-//! and pairs of sides that hand each other their objects.
+//! Two registries made equal: a push of objects to a peer by putTypes, which is this profile's own, and getTypes (DDS-XTypes 1.3, 7.6.3.3);
+//! in `told` what a push tells, and in `pairs` two sides that hand each other their objects.
 #![tactic(auto)]
 
 pub mod pairs;

@@ -1,4 +1,4 @@
--- What the entries of a pool stand for: identifiers and texts.
+-- What the entries of a pool stand for: identifiers and texts (this profile's own).
 use Rattle.std.specs.Prelude.{ℕ, List}
 use Rattle.type_trees.specs.declared.types.HashId.{HashId}
 use Rattle.type_object.specs.declared.entry.Entry.{Entry}

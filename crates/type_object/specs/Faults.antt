@@ -1,4 +1,4 @@
--- What the faults of a pool say.
+-- What the faults of a pool say (this profile's own).
 use Rattle.std.specs.Prelude.{◌≡◌, ◌<◌, ℕ, List, length, ◌∷◌, [], ◌++◌, None, Result, Ok, Err}
 use Rattle.type_trees.specs.declared.types.HashId.{HashId}
 use Rattle.object_formats.specs.declared.faults.Fault.{Fault}

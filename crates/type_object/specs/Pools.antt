@@ -1,4 +1,4 @@
--- Pools: texts of objects by their identifiers, in the order in which they came.
+-- Pools: texts of objects by their identifiers, in the order in which they came (this profile's own).
 use Rattle.std.specs.Prelude.{◌≡◌, ◌≢◌, ◌≤◌, All, AllPairs, ℕ, List, [], ◌∷◌, ◌++◌, Bool, cond, Option, Some, None, Result, Ok, Err, length, nat_le, nat_eq}
 use Rattle.std.specs.Cmp.Lexicographic.{pointwise}
 use Rattle.type_trees.specs.declared.types.HashId.{HashId}

@@ -1,4 +1,4 @@
--- The hash identifiers in an object, each once, in the order of its text.
+-- The hash identifiers in an object, each once, in the order of its text (DDS-XTypes 1.3, 7.3.4).
 use Rattle.std.specs.Prelude.{List, [], ◌∷◌, ◌++◌, Bool, false, cond, ◌||◌}
 use Rattle.type_trees.specs.declared.types.HashId.{HashId}
 use Rattle.object_formats.specs.Objects.{Identifier, MemberPart, CasePart, Object}

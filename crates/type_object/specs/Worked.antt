@@ -1,4 +1,4 @@
--- Worked examples, by computation.
+-- A worked list of references, by computation: each identifier once (DDS-XTypes 1.3, 7.3.4).
 use Rattle.std.specs.Prelude.{◌≡◌, [], ◌∷◌, None}
 use Rattle.std.proofs.Common.{refl}
 use Rattle.type_trees.specs.declared.types.HashId.{HashId}

@@ -1,4 +1,5 @@
-//! TypeObjects and their identifiers (DDS-XTypes 1.3, 7.3.4): the types that an object refers to, and pools of objects.
+//! TypeObjects and their identifiers (DDS-XTypes 1.3, 7.3.4): the types that an object refers to, pools of objects, and in `visits` what is
+//! met from an object. The objects themselves come from `object_formats`, `object_reader` and `object_writer`.
 #![tactic(auto)]
 
 mod entry;

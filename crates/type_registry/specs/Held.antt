@@ -1,4 +1,4 @@
--- What cells hold, and what a read of one tells.
+-- What cells hold, and what a read of one tells (this profile's own).
 use Rattle.std.specs.Prelude.{◌≡◌, ℕ, List, [], ◌∷◌, Some, slice_get}
 use Rattle.type_trees.specs.declared.types.HashId.{HashId}
 use Rattle.type_object.specs.Names.{named_by}

@@ -1,4 +1,4 @@
--- Identifiers as the keys of a map.
+-- Identifiers as the keys of a map (this profile's own).
 use Rattle.std.specs.Prelude.{ℕ, List, refl}
 use Rattle.std.specs.Coded.{Coded, code_by, coded×, coded_ℕ, coded_list}
 use Rattle.type_trees.specs.declared.types.HashId.{HashId}

@@ -1,5 +1,5 @@
 //! The registry of TypeObjects that threads share. It grows while they read it, and no call of it waits or takes a lock. How types are
-//! shared in a process is this profile's own; identifiers are those of DDS-XTypes 1.3, 7.3.4.
+//! shared in a process is this profile's own; identifiers are those of DDS-XTypes 1.3, 7.3.4. `notes` has what was read in its cells.
 #![tactic(auto)]
 
 mod agrees;

@@ -1,4 +1,4 @@
--- Texts that are added to a pool one after another, and what an answer says of them.
+-- Texts that are added to a pool one after another, and what an answer says of them (this profile's own).
 use Rattle.std.specs.Prelude.{◌≡◌, ℕ, List, [], ◌∷◌, ◌++◌, Option, Some, None, Result, Ok, Err}
 use Rattle.type_trees.specs.declared.types.HashId.{HashId}
 use Rattle.type_object.specs.Pools.{Texts, Refusal, no_object, clash, full, added}

@@ -1,4 +1,4 @@
--- What a pool holds.
+-- What a pool holds (this profile's own).
 use Rattle.std.specs.Prelude.{◌≡◌, ℕ, List, [], ◌∷◌, Some, None, Ok, true, max}
 use Rattle.xt_shapes.specs.declared.leaves.Ext.{Ext}
 use Rattle.type_trees.specs.declared.types.HashId.{HashId}

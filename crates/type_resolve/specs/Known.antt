@@ -1,4 +1,4 @@
--- Types whose objects were all added to a pool, so that they need not be made again.
+-- Types whose objects were all added to a pool, so that they need not be made again (this profile's own).
 use Rattle.std.specs.Prelude.{◌≡◌, All, List, ℕ, Option, None}
 use Rattle.type_trees.specs.View.{tree}
 use Rattle.type_trees.specs.Trees.{Tree, enumeration, bitmask, structure, union, alias}

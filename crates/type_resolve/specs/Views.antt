@@ -1,4 +1,4 @@
--- What the code's parts of minimal and complete objects stand for, and what a call does that adds the objects of a type.
+-- What the code's parts of minimal and complete objects stand for, and what a call does that adds the objects of a type (this profile's own).
 use Rattle.std.specs.Prelude.{◌≡◌, ℕ, ◌&&◌, List, [], ◌∷◌, Bool, true, false, Option, Some, None, Result, Ok, Err, map}
 use Rattle.type_trees.specs.declared.types.HashId.{HashId}
 use Rattle.xt_shapes.specs.declared.leaves.Try.{Try}

@@ -1,4 +1,4 @@
--- Worked examples, by computation.
+-- Worked objects of types, and their order, by computation (DDS-XTypes 1.3, 7.3.4; the order is this profile's own).
 use Rattle.std.specs.Prelude.{◌≡◌, ℕ, List, [], ◌∷◌, Bool, false, true, None, Some, ◌++◌}
 use Rattle.std.proofs.Common.{refl}
 use Rattle.xt_shapes.specs.declared.leaves.Ext.TheVariants.{Final}

@@ -1,4 +1,4 @@
--- A fault as a rule and the steps to a node.
+-- A fault as a rule and the steps to a node (this profile's own).
 use Rattle.std.specs.Prelude.{ℕ, List, Option, Some, None, Result, Ok, Err}
 use Rattle.std.specs.Option.{option_map}
 use Rattle.xt_shapes.specs.declared.leaves.Step.{Step}

@@ -1,4 +1,4 @@
--- What a type without a fault keeps.
+-- Laws: a type without a fault keeps the rules at every node of its shape, and the limits (this profile's own).
 use Rattle.std.specs.Prelude.{◌≡◌, ◌≤◌, IsTrue, None}
 use Rattle.xt_shapes.specs.NodeRules.{rules_hold}
 use Rattle.xt_shapes.specs.Weight.{weight}

@@ -1,4 +1,4 @@
--- The nodes of a type, and how deep they lie.
+-- The nodes of a type, and how deep they lie (this profile's own).
 use Rattle.std.specs.Prelude.{ℕ, suc, ◌+◌, max, List, [], ◌∷◌, ◌++◌}
 use Rattle.xt_shapes.specs.declared.leaves.Step.{Step}
 use Rattle.type_trees.specs.Trees.{Tree, prim, str, enumeration, bitmask, sequence, array, map_of, structure, union, alias, Members, no_members, member, Cases, no_cases, one_case}

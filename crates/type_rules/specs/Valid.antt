@@ -1,4 +1,4 @@
--- The first rule that a type breaks, and where.
+-- The first rule that a type breaks, and where (DDS-XTypes 1.3, 7.2.2; which comes first is this profile's own).
 use Rattle.std.specs.Prelude.{ℕ, suc, Bool, ◌&&◌, cond, List, [], ◌∷◌, ◌++◌, nat_le, ◌==◌, Option, Some, None}
 use Rattle.std.specs.Option.{option_map}
 use Rattle.xt_shapes.specs.declared.leaves.Step.{Step}

@@ -1,4 +1,4 @@
--- Worked types and their first faults, checked by computation. Names are given by their hashes, but where V1 is meant.
+-- Worked types and their first faults, checked by computation (DDS-XTypes 1.3, 7.2.2). Names are given by their hashes, but where V1 is meant.
 use Rattle.std.specs.Prelude.{◌≡◌, ℕ, zero, suc, ℤ, pos, negsuc, List, [], ◌∷◌, Bool, true, false, Option, Some, None, codes}
 use Rattle.std.proofs.Common.{refl}
 use Rattle.xt_shapes.specs.declared.leaves.Ext.{Ext}

@@ -1,5 +1,5 @@
--- The base of a structure: the structure with its last base's name and flags, its extensibility and its first members, and with
--- the bases before the last (DDS-XTypes 1.3, 7.2.2.4.4: single inheritance).
+-- The base of a structure (DDS-XTypes 1.3, 7.2.2.4.4: single inheritance): the structure with its last base's name and flags, its
+-- extensibility and its first members, and with the bases before the last.
 use Rattle.std.specs.Prelude.{ℕ, zero, suc, List, [], ◌∷◌, Option, Some, None}
 use Rattle.type_trees.specs.declared.types.Base.{Base}
 use Rattle.type_trees.specs.Trees.{StructHead, Members, no_members, member}

@@ -1,4 +1,5 @@
--- The shape of a type: its aliases are resolved, its names hashed, and the names of types dropped.
+-- The shape of a type: its aliases are resolved, its names hashed, and the names of types dropped (DDS-XTypes 1.3, 7.3.4; that
+-- aliases are resolved is this profile's own).
 use Rattle.std.specs.Prelude.{ℕ, List, map}
 use Rattle.type_trees.specs.declared.types.Name.{Name}
 use Rattle.type_trees.specs.declared.types.Literal as named

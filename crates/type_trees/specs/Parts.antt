@@ -1,4 +1,4 @@
--- The parts of the program's types, by kind, as the shape of the type has them.
+-- The parts of the program's types, by kind, as the shape of the type has them (this profile's own).
 use Rattle.std.specs.Prelude.{ℕ, List, Bool, map}
 use Rattle.xt_shapes.specs.declared.leaves.Ext.{Ext}
 use Rattle.xt_shapes.specs.declared.leaves.Try.{Try}

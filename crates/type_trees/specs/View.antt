@@ -1,4 +1,4 @@
--- What the program's types and values stand for: the same trees, without the addresses of their parts.
+-- What the program's types and values stand for: the same trees, without the addresses of their parts (this profile's own).
 use Rattle.std.specs.Prelude.{List, [], ◌∷◌, map}
 use Rattle.xt_shapes.specs.declared.leaves.Try.{Try}
 use Rattle.type_trees.specs.declared.types.XType.{XType, fold-XType}

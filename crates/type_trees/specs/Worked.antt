@@ -1,4 +1,4 @@
--- Worked examples, checked by computation.
+-- Worked hashes, bases and shapes, checked by computation (DDS-XTypes 1.3, 7.3.4 and 7.2.2.4.4).
 use Rattle.std.specs.Prelude.{◌≡◌, ℕ, [], ◌∷◌, List, true, false, Option, Some, None}
 use Rattle.std.proofs.Common.{refl}
 use Rattle.md5.specs.Md5.{block_words, rounds, compress, hash_after, digest_bytes, md5}

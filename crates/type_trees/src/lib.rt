@@ -1,5 +1,5 @@
 //! The types and values of DDS-XTypes as the program holds them, and in `specs/` what they stand for: plain trees, and through them
-//! the shapes that decoding sees.
+//! the shapes that decoding sees. `samples` says which types samples have at the top, and `sizes` how large types are.
 #![tactic(auto)]
 
 mod cases;

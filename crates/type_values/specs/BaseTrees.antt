@@ -1,4 +1,4 @@
--- The base of a structure, as a tree.
+-- The base of a structure, as a tree (DDS-XTypes 1.3, 7.2.2.4.4).
 use Rattle.std.specs.Prelude.{Option, None}
 use Rattle.std.specs.Option.{option_map}
 use Rattle.type_trees.specs.Trees.{Tree, structure}

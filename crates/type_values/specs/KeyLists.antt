@@ -1,4 +1,4 @@
--- The keys of a map, by kind.
+-- The keys of a map, by kind (this profile's own).
 use Rattle.std.specs.Prelude.{ℕ, ℤ, List, [], ◌∷◌}
 use Rattle.xt_shapes.specs.Vals.{Val, int, text}
 

@@ -1,4 +1,4 @@
--- Maps whose keys rise, so that no two are the same.
+-- Maps whose keys rise, so that no two are the same (this profile's own).
 use Rattle.std.specs.Prelude.{List, [], ◌∷◌, Bool, true, false, ◌&&◌}
 use Rattle.std.specs.Ordering.{int_cmp, nat_cmp, is_lt}
 use Rattle.std.specs.Cmp.Lexicographic.{slice_cmp}

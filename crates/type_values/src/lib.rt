@@ -1,4 +1,5 @@
-//! Values by type (DDS-XTypes 1.3, 7.2): which values a type has, its default, and copies of types and values.
+//! Values by type (DDS-XTypes 1.3, 7.2): which values a type has, its default, and copies of types and values; in `same` whether two types
+//! are the same.
 #![tactic(auto)]
 
 mod bases;

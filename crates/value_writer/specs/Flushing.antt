@@ -1,4 +1,4 @@
--- A block of octets that were not yet written.
+-- A block of octets that were not yet written (this profile's own).
 use Rattle.std.specs.Prelude.{◌≡◌, ℕ, ◌≤◌, List, ◌++◌, length, Result, Ok, Err}
 use Rattle.xt_outside.specs.declared.octets.Failed.{Failed}
 use Rattle.xt_wire.specs.writer.Written.{Written}

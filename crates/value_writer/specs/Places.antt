@@ -1,5 +1,5 @@
--- Where octets end that are written from a place on. Sizes stop counting at a place that is past the
--- end of every sample, and of all whose octets a count of 32 bits can count.
+-- Where octets end that are written from a place on (this profile's own). Sizes stop counting at a place that is past the end of every sample,
+-- and of all whose octets a count of 32 bits can count.
 use Rattle.std.specs.Prelude.{ℕ, ◌+◌, ◌*◌, ◌==◌, cond, min, length}
 use Rattle.xcdr_model.specs.FixedSpelling.{Fixed}
 use Rattle.xcdr_model.specs.Numbers.{padding}

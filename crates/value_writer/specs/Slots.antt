@@ -1,4 +1,4 @@
--- Slots as options.
+-- Slots as options (this profile's own).
 use Rattle.std.specs.Prelude.{Option, Some, None}
 use Rattle.xt_shapes.specs.Vals.{Val, Slot, absent, present}
 

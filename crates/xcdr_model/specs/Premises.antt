@@ -1,4 +1,5 @@
--- What the laws ask of a type. All of it holds of a valid type: each part has its own recursion, so that a law names what it needs.
+-- What the laws ask of a type (this profile's own). All of it holds of a valid type: each part has its own recursion, so that a law names
+-- what it needs.
 use Rattle.std.specs.Prelude.{◌^◌, ◌-◌, Bool, true, false, not, nat_lt, ◌&&◌}
 use Rattle.xt_shapes.specs.Defaults.{default_of}
 use Rattle.xt_shapes.specs.Keyable.{counted_keyable}

@@ -1,5 +1,5 @@
--- Reading from left to right: each step gives what it read and what is left of the region, or the first fault. Regions, places and
--- faults are this profile's own way to say how a reader goes over octets (DDS-XTypes 1.3, 7.4).
+-- Reading octets from left to right (DDS-XTypes 1.3, 7.4): each step gives what it read and what is left of the region, or the first fault.
+-- Regions, places and faults are this profile's own way to say how a reader goes over octets.
 use Rattle.std.specs.Prelude.{ℕ, zero, suc, ◌+◌, List, [], ◌∷◌, cond, Result, Ok, Err, length, take, drop, min, nat_lt, ◌==◌}
 use Rattle.xt_shapes.specs.declared.leaves.Order.{Order}
 use Rattle.xcdr_model.specs.declared.malformed.Fault.{Fault}

@@ -1,4 +1,4 @@
--- What the worked examples share: types and values in few words, and lists of what their computations open.
+-- What the worked examples share: types and values in few words, and lists of what their computations open (this profile's own).
 use Rattle.std.specs.Prelude.{◌≡◌, ℕ, ℤ, pos, List, [], Bool, true, false, map, Ok, Err}
 use Rattle.xt_shapes.specs.declared.leaves.Primitive.TheVariants as prims
 use Rattle.xt_shapes.specs.declared.leaves.Rep.{Rep}

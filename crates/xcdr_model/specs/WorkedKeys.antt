@@ -1,4 +1,4 @@
--- Worked keys, their octets and their hashes.
+-- Worked keys, their octets and their hashes (DDS-XTypes 1.3, 7.6.8).
 use Rattle.std.specs.Prelude.{◌≡◌, ℕ, pos, [], ◌∷◌, true, false}
 use Rattle.std.proofs.Common.{refl}
 use Rattle.md5.specs.Md5.{block_words, rounds, compress, hash_after, digest_bytes, md5}

@@ -1,4 +1,4 @@
--- Malformed samples: the first fault in reading order, with its place in the sample.
+-- Malformed samples: the first fault in reading order, with its place in the sample (DDS-XTypes 1.3, 7.4; which is first is this profile's own).
 use Rattle.std.specs.Prelude.{[], ◌∷◌}
 use Rattle.std.proofs.Common.{refl}
 use Rattle.xt_shapes.specs.declared.leaves.Ext.TheVariants.{Final, Mutable}

@@ -1,4 +1,4 @@
--- A pose of a vehicle that grows by an optional mode: assignable in both directions, and each reads the other's samples.
+-- A pose of a vehicle that grows by an optional mode: assignable in both directions, and each reads the other's samples (DDS-XTypes 1.3, 7.2.4).
 use Rattle.std.specs.Prelude.{◌≡◌, ℕ, List, [], ◌∷◌, ◌++◌, None, Ok, map, length, take, drop, replicate}
 use Rattle.std.proofs.Common.{refl}
 use Rattle.xt_shapes.specs.declared.leaves.Ext.TheVariants.{Final, Appendable, Mutable}

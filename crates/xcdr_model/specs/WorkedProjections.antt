@@ -1,4 +1,4 @@
--- Worked projections: what a reader of the first type makes of a value of the second.
+-- Worked projections: what a reader of the first type makes of a value of the second (DDS-XTypes 1.3, 7.2.4.1 and 7.2.2.7).
 use Rattle.std.specs.Prelude.{◌≡◌, pos, [], ◌∷◌, true, false, Some, None}
 use Rattle.std.proofs.Common.{refl}
 use Rattle.xt_shapes.specs.declared.leaves.Ext.TheVariants.{Final, Appendable, Mutable}

@@ -1,4 +1,4 @@
--- Worked samples in XCDR2.
+-- Worked samples in XCDR2 (DDS-XTypes 1.3, 7.4.2 and 7.4.3).
 use Rattle.std.specs.Prelude.{ℕ, pos, negsuc, List, [], ◌∷◌, false}
 use Rattle.std.proofs.Common.{refl}
 use Rattle.xt_shapes.specs.declared.leaves.Ext.TheVariants.{Final, Appendable, Mutable}

@@ -1,4 +1,4 @@
--- Worked samples as they are written.
+-- Worked samples as they are written (DDS-XTypes 1.3, 7.4).
 use Rattle.std.specs.Prelude.{◌≡◌, pos, [], ◌∷◌, true, false}
 use Rattle.std.proofs.Common.{refl}
 use Rattle.xt_shapes.specs.declared.leaves.Ext.TheVariants.{Final, Mutable}

@@ -1,4 +1,4 @@
--- Worked verdicts: nothing fails, or one rule at one path. The reader's type stands first.
+-- Worked verdicts: nothing fails, or one rule at one path (DDS-XTypes 1.3, 7.2.4.4). The reader's type stands first.
 use Rattle.std.specs.Prelude.{◌≡◌, ℕ, pos, List, [], ◌∷◌, true, false, Some, None, map}
 use Rattle.std.proofs.Common.{refl}
 use Rattle.xt_shapes.specs.declared.leaves.Ext.TheVariants.{Final, Appendable, Mutable}

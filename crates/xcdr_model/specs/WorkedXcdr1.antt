@@ -1,4 +1,4 @@
--- Worked samples in XCDR1.
+-- Worked samples in XCDR1 (DDS-XTypes 1.3, 7.4.1).
 use Rattle.std.specs.Prelude.{◌≡◌, pos, [], ◌∷◌, false, Ok, Err}
 use Rattle.std.proofs.Common.{refl}
 use Rattle.xt_shapes.specs.declared.leaves.Ext.TheVariants.{Final, Appendable, Mutable}

@@ -1,4 +1,4 @@
--- Numbers that are read many at a time.
+-- Numbers that are read many at a time (this profile's own).
 use Rattle.std.specs.Prelude.{◌≡◌, ℕ, zero, suc, ◌*◌, ◌<◌, ◌≤◌, min, false, List, take, drop, Ok}
 use Rattle.xt_shapes.specs.declared.leaves.Order.{Order}
 use Rattle.xt_shapes.specs.declared.leaves.Primitive.{Primitive}

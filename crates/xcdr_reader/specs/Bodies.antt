@@ -1,4 +1,4 @@
--- The outcome of a value.
+-- The outcome of a value in a cursor's region, and what may be left behind it (this profile's own).
 use Rattle.std.specs.Prelude.{Ok, cond, length, ◌==◌}
 use Rattle.xt_shapes.specs.declared.leaves.Order.{Order}
 use Rattle.xt_shapes.specs.declared.leaves.Rep.{Rep}

@@ -1,4 +1,4 @@
--- What comes of a member that stands in declared order.
+-- What comes of a member that stands in declared order: it is there, absent, or a parameter's content (DDS-XTypes 1.3, 7.4.1 and 7.4.3.5).
 use Rattle.std.specs.Prelude.{ℕ, Bool, cond, ◌&&◌, ◌==◌, ◌≤◌, Ok, length}
 use Rattle.xt_shapes.specs.declared.leaves.Order.{Order}
 use Rattle.xcdr_model.specs.Reading.{Spot, Reading, ◌>>=◌}

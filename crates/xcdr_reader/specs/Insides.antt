@@ -1,4 +1,4 @@
--- What is read inside a value's own region, or of the value where it has none, by the kind of its type.
+-- What is read inside a value's own region, or of the value where it has none, by the kind of its type (DDS-XTypes 1.3, 7.4.1 and 7.4.3).
 use Rattle.std.specs.Prelude.{ℕ, Bool, List, Some, None, true, false, cond}
 use Rattle.xt_shapes.specs.declared.leaves.Ext.{Ext}
 use Rattle.xt_shapes.specs.declared.leaves.Ext.TheVariants.{Final, Appendable, Mutable}

@@ -1,4 +1,4 @@
--- The members of a mutable structure by index, and what is read of them one after another.
+-- The members of a mutable structure by index, and what is read of them one after another (DDS-XTypes 1.3, 7.4.1.2 and 7.4.3.4).
 use Rattle.std.specs.Prelude.{◌≡◌, ◌<◌, ℕ, zero, suc, Bool, true, false, cond, ◌||◌, ◌==◌, List, [], ◌∷◌, ◌++◌, length, slice_get, Option, Some, None, Result, Ok, Err, is_some, IfSome}
 use Rattle.xt_shapes.specs.declared.leaves.Order.{Order}
 use Rattle.xt_shapes.specs.Shape.{Members, no_members, member}

@@ -1,4 +1,4 @@
--- What is read of a value, by the parts of its type: how its octets are bounded, and what is read inside.
+-- What is read of a value, by the parts of its type: how its octets are bounded, and what is read inside (DDS-XTypes 1.3, 7.4.1 and 7.4.3).
 use Rattle.std.specs.Prelude.{ℕ, ℤ, Bool, true, false, cond, ◌&&◌, List, [], ◌∷◌, Option, Some, None, Ok, length}
 use Rattle.xt_shapes.specs.declared.leaves.Order.{Order}
 use Rattle.xt_shapes.specs.declared.leaves.Try.{Try}

@@ -1,4 +1,5 @@
-//! The steps of reading that both encodings share, and those of each.
+//! Steps of reading values of octets with a cursor (DDS-XTypes 1.3, 7.4): those that both representations share (`scalars`, `reading`), those of
+//! XCDR1 (`one`) and of XCDR2 (`two`), and the members of a structure by their ids (`index`).
 #![tactic(auto)]
 
 pub mod index;

@@ -1,4 +1,5 @@
--- The fixed spelling of either representation by the parts of a type and of a value, as `fixed_of` puts them together.
+-- The fixed spelling of either representation by the parts of a type and of a value, as `fixed_of` puts them together (DDS-XTypes 1.3, 7.4.1
+-- and 7.4.2).
 use Rattle.std.specs.Prelude.{ℕ, ℤ, ◌+◌, ◌*◌, ◌^◌, ◌++◌, min, List, Bool, true, false, cond, nat_lt, nat_le, ◌&&◌}
 use Rattle.xt_shapes.specs.declared.leaves.Ext.{Ext}
 use Rattle.xt_shapes.specs.declared.leaves.Ext.TheVariants.{Final, Appendable, Mutable}

@@ -1,4 +1,5 @@
-//! Values and samples written in either representation (DDS-XTypes 1.3, 7.4 and 7.6.3.1.2): their sizes, the octets of values, and whole samples.
+//! Values and samples written in either representation (DDS-XTypes 1.3, 7.4 and 7.6.3.1.2): their sizes, the octets of values, and whole
+//! samples. `written` has these under the names of XCDR1 and of XCDR2.
 #![tactic(auto)]
 
 mod codes;

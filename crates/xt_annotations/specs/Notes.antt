@@ -1,4 +1,5 @@
--- An annotation in a text, or the rule that it breaks: `@`, a name, and where a parameter is given `(`, one token and `)`.
+-- An annotation in a text, or the rule that it breaks: `@`, a name, and where a parameter is given `(`, one token and `)` (OMG IDL 4.2, 7.4.15;
+-- one token is this profile's own).
 use Rattle.std.specs.Prelude.{◌≡◌, ℕ, ◌+◌, ◌-◌, Bool, true, false, if◌then◌else◌, length, drop, Option, Some, None, Result, Ok, Err, codes}
 use Rattle.idl_tokens.specs.Classes.{Text}
 use Rattle.idl_tokens.specs.Tokens.{kind_at, spelling_at, after, is_word, sees}

@@ -1,4 +1,4 @@
--- Worked examples of annotations, by computation.
+-- Worked examples of annotations, by computation (DDS-XTypes 1.3, 7.3.1.2).
 use Rattle.std.specs.Prelude.{◌≡◌, [], ◌∷◌, Some, Ok, Err, codes, refl}
 use Rattle.xt_shapes.specs.declared.leaves.Ext.{Ext}
 use Rattle.idl_tokens.specs.Numerals.{is_numeral, magnitude, unsigned_in}

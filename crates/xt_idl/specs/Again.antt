@@ -1,4 +1,4 @@
--- Worked lists of types whose printed text declares the same list, and faults of types with members, by computation.
+-- Worked lists of types whose printed text declares the same list, and faults of types with members, by computation (this profile's own).
 use Rattle.std.specs.Prelude.{◌≡◌, ℕ, negsuc, Bool, true, false, List, [], ◌∷◌, Some, Ok, Err, codes, refl}
 use Rattle.std.specs.Fmt.{digits}
 use Rattle.md5.specs.Md5.{block_words, rounds, compress, hash_after, digest_bytes, md5}

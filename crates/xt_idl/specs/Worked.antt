@@ -1,4 +1,4 @@
--- Worked texts, by computation: what they declare, or their first fault.
+-- Worked texts, by computation: what they declare, or their first fault (OMG IDL 4.2, 7.4.1; DDS-XTypes 1.3, 7.3.1).
 use Rattle.std.specs.Prelude.{◌≡◌, [], ◌∷◌, Some, Result, Ok, Err, codes, refl}
 use Rattle.xt_shapes.specs.declared.leaves.Primitive.TheVariants as prims
 use Rattle.xt_shapes.specs.declared.leaves.Try.{Try}

@@ -1,4 +1,4 @@
--- What reading the front of the octets answers, and what it leaves.
+-- What reading the front of the octets answers, and what it leaves (this profile's own).
 use Rattle.std.specs.Prelude.{◌≡◌, ℕ, ◌<◌, List, [], length, Option, Some, None, Result, Ok, Err}
 use Rattle.xt_outside.specs.declared.records.Head.{Head}
 use Rattle.xt_outside.specs.declared.records.RecordFault.{RecordFault}

@@ -1,4 +1,4 @@
--- What a reader of bundles has still to give.
+-- What a reader of bundles has still to give (this profile's own).
 use Rattle.std.specs.Prelude.{◌≡◌, ℕ, ◌+◌, ◌*◌, ◌≤◌, Bool, true, false, List, length, take, drop, nat_lt, if◌then◌else◌, Option, Some, None, Result, Ok, Err, IfOk, IfErr, IfSome}
 use Rattle.std.specs.Option.{option_map}
 use Rattle.xt_outside.specs.declared.records.Head.{Head}

@@ -1,4 +1,4 @@
--- What the adapters over readers, writers and TCP hold.
+-- What the adapters over readers, writers and TCP hold (this profile's own).
 use Rattle.std.specs.Prelude.{ℕ, List, Option, None}
 use Rattle.xt_outside.specs.Links.{IsNewDoor}
 use Rattle.xt_outside.specs.declared.adapters.ReadSource.{ReadSource}

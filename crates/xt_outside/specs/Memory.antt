@@ -1,4 +1,4 @@
--- What the sources and sinks in memory hold.
+-- What the sources and sinks in memory hold (this profile's own).
 use Rattle.std.specs.Prelude.{ℕ, List}
 use Rattle.xt_outside.specs.declared.memory.SureSource.{SureSource}
 use Rattle.xt_outside.specs.declared.memory.MemSource.{MemSource}

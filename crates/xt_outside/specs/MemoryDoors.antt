@@ -1,4 +1,4 @@
--- What the doors and nets in memory hold.
+-- What the doors and nets in memory hold (this profile's own).
 use Rattle.std.specs.Prelude.{ℕ, Bool, false, true, List, [], ◌∷◌, length, nat_lt, take, Option, Some, None}
 use Rattle.xt_outside.specs.Links.{Held, Heard, IsNewDoor}
 use Rattle.xt_outside.specs.MemoryLinks.{entry_of, heard_over}

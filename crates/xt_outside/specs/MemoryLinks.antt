@@ -1,4 +1,4 @@
--- What the links in memory hold.
+-- What the links in memory hold (this profile's own).
 use Rattle.std.specs.Prelude.{ℕ, List, take, drop, Some}
 use Rattle.xt_outside.specs.Links.{Held, Heard, is_nothing, IsNewLink}
 use Rattle.xt_outside.specs.declared.memory_links.SureLink.{SureLink}

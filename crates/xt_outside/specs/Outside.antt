@@ -1,4 +1,4 @@
--- What a call of the outside does to the octets that are left and taken, and when it may fail.
+-- What a call of the outside does to the octets that are left and taken, and when it may fail (this profile's own).
 use Rattle.std.specs.Prelude.{◌≡◌, ℕ, ◌+◌, ◌-◌, ◌^◌, ◌≤◌, min, Bool, true, false, ◌==◌, List, ◌++◌, length, take, drop, Some, None, Result, OnErr, IfOk, IsErrOf}
 use Rattle.std.specs.List.{list_any}
 use Rattle.std.specs.Io.KnownBytes.{Appends}

@@ -1,4 +1,4 @@
--- What the answers of a Replayer stand for.
+-- What the answers of a Replayer stand for (this profile's own).
 use Rattle.std.specs.Prelude.{◌≡◌, Err}
 use Rattle.assignability.specs.Views.{verdict_view}
 use Rattle.settled_parts.specs.Settling.{outcome_val}

@@ -1,4 +1,4 @@
--- What contracts see of a Replayer.
+-- What contracts see of a Replayer (this profile's own).
 use Rattle.std.specs.Option.{option_map}
 use Rattle.type_trees.specs.Trees.{Tree}
 use Rattle.type_trees.specs.View.{tree}

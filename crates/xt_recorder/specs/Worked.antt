@@ -1,4 +1,4 @@
--- Worked examples, by computation.
+-- Worked Notes of streams, written and read, by computation (this profile's own).
 use Rattle.std.proofs.Common.{refl}
 use Rattle.std.specs.Prelude.{◌≡◌, [], ◌∷◌, Option, Some, None, codes}
 use Rattle.xt_shapes.specs.declared.leaves.Rep.TheVariants.{Xcdr1, Xcdr2}

@@ -1,4 +1,4 @@
--- The kinds of types, and the parts of a type that is of a kind.
+-- The kinds of types, and the parts of a type that is of a kind (DDS-XTypes 1.3, 7.2.2).
 use Rattle.std.specs.Prelude.{ℕ, List, Bool, true, false, Option, Some, None, ◌==◌}
 use Rattle.xt_shapes.specs.declared.leaves.Ext.{Ext}
 use Rattle.xt_shapes.specs.declared.leaves.Try.{Try}

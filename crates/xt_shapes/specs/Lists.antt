@@ -1,4 +1,4 @@
--- Tests on lists and options.
+-- Tests on lists and options (this profile's own).
 use Rattle.std.specs.Prelude.{Bool, true, false, cond, ◌&&◌, ◌||◌, List, [], ◌∷◌, Option, Some, None}
 
 -- some item passes

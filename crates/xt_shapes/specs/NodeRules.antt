@@ -1,5 +1,5 @@
--- The rules of valid types, each for the part of a type that it speaks of, and whether they hold at every node of a shape. Names (V1),
--- bases (V17, V18), depth and size (V15, V16) are not seen here.
+-- The rules of valid types (DDS-XTypes 1.3, 7.2.2; which are this profile's own is said at each), each for the part of a type that it speaks
+-- of, and whether they hold at every node of a shape. Names (V1), bases (V17, V18), depth and size (V15, V16) are not seen here.
 use Rattle.std.specs.Prelude.{ℕ, ◌^◌, ℤ, Bool, true, false, not, ◌&&◌, ◌||◌, nat_eq, nat_le, nat_lt, cond, map, List, [], ◌∷◌, ◌++◌, length}
 use Rattle.std.specs.Ordering.{int_eq}
 use Rattle.xt_shapes.specs.declared.leaves.Ext.{Ext}

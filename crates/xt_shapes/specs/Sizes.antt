@@ -1,4 +1,4 @@
--- How many octets numbers take, and which have a sign.
+-- How many octets numbers take, and which have a sign (DDS-XTypes 1.3, 7.2.2.2, 7.2.2.4.1 and 7.4).
 use Rattle.std.specs.Prelude.{ℕ, ◌*◌, ◌^◌, ◌-◌, Bool, true, false, cond, nat_le}
 use Rattle.xt_shapes.specs.declared.leaves.Primitive.{Primitive}
 

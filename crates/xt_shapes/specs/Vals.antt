@@ -1,4 +1,4 @@
--- Values as plain trees: a structure has one slot for each member in declared order, a union the number of its discriminator.
+-- Values as plain trees: a structure has one slot for each member in declared order, a union the number of its discriminator (DDS-XTypes 1.3, 7.2.2).
 use Rattle.std.specs.Prelude.{ℕ, ℤ, pos, List, [], ◌∷◌}
 
 mutual

@@ -1,4 +1,4 @@
--- Worked examples, checked by computation.
+-- Worked types, values, defaults, cases and weights, checked by computation (DDS-XTypes 1.3, 7.2.2).
 use Rattle.std.specs.Prelude.{◌≡◌, ℕ, ℤ, pos, negsuc, List, [], ◌∷◌, Bool, true, false, Some, None}
 use Rattle.std.proofs.Common.{refl}
 use Rattle.xt_shapes.specs.declared.leaves.Ext.TheVariants.{Final, Mutable}

@@ -1,4 +1,4 @@
--- Worked types that keep or break a rule, checked by computation.
+-- Worked types that keep or break a rule, checked by computation (DDS-XTypes 1.3, 7.2.2).
 use Rattle.std.specs.Prelude.{◌≡◌, ℕ, ℤ, pos, negsuc, List, [], ◌∷◌, Bool, true, false}
 use Rattle.std.proofs.Common.{refl}
 use Rattle.xt_shapes.specs.declared.leaves.Ext.TheVariants.{Final, Mutable}

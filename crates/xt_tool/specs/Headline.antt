@@ -1,5 +1,5 @@
--- The headline: where the reader's type is assignable from the writer's, the line of each sample that spells a value of the writer's type
--- is that of the value's projection; where it isn't, one line names the first rule that fails.
+-- The headline (this profile's own): where the reader's type is assignable from the writer's, the line of each sample that spells a value of the
+-- writer's type is that of the value's projection; where it isn't, one line names the first rule that fails.
 use Rattle.std.specs.Prelude.{◌≡◌, ℕ, ◌⊎◌, List, [], ◌∷◌, ◌++◌, map, Some, None, Ok, if◌then◌else◌}
 use Rattle.xt_io.specs.declared.Kind.TheVariants.{Sample, Note}
 use Rattle.xt_io.specs.declared.Item.{Item}

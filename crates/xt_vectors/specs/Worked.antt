@@ -1,4 +1,4 @@
--- Worked examples, checked by computation.
+-- Worked draws, a pair, and a run of no pairs, checked by computation (this profile's own).
 use Rattle.std.specs.Prelude.{◌≡◌, ℕ, [], ◌∷◌, false, codes}
 use Rattle.std.proofs.Common.{refl}
 use Rattle.md5.specs.Md5.{block_words, rounds, compress, hash_after, digest_bytes, md5}

@@ -1,5 +1,5 @@
-//! Octets of samples at places: the cursors that decoders read with and the writer that encoders write with. The crate gathers what the
-//! crates below it have; their own pages say how each is defined and proved.
+//! Octets of samples at places: the cursors that decoders read with and the writer that encoders write with, each in a module, and the
+//! numbers that both have (DDS-XTypes 1.3, 7.4).
 #![tactic(auto)]
 
 pub mod cursor;

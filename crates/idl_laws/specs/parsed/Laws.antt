@@ -1,4 +1,4 @@
--- What a text declares.
+-- The laws that what a text declares is printable, and that its printed text declares the same (this profile's own).
 use Rattle.std.specs.Prelude.{◌≡◌, Ok}
 use Rattle.idl_tokens.specs.Classes.{Text}
 use Rattle.idl_types.specs.State.{Declared}

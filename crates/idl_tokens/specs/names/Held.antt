@@ -1,4 +1,4 @@
--- What the entries of the scopes' names stand for, and the words of a set.
+-- What the entries of the scopes' names stand for, and the words of a set (this profile's own).
 use Rattle.std.specs.Prelude.{ℕ, List, map}
 use Rattle.idl_tokens.specs.declared.names.scopes.Key.{Key}
 use Rattle.idl_tokens.specs.declared.names.scopes.Meaning.{Meaning}

@@ -1,4 +1,4 @@
--- Names that are taken.
+-- Names that are taken (this profile's own).
 use Rattle.std.specs.Prelude.{ℕ, Bool, false, ◌||◌, List, [], ◌∷◌}
 use Rattle.std.specs.Str.{bytes_eq}
 

@@ -1,4 +1,4 @@
--- Instances: for each key its last values. A put is the octets of a key, and a value.
+-- Instances: for each key its last values (this profile's own). A put is the octets of a key, and a value.
 use Rattle.std.specs.Prelude.{ℕ, ◌-◌, Bool, true, false, List, [], ◌∷◌, ◌++◌, map, length, drop, nat_le, if◌then◌else◌}
 use Rattle.std.specs.List.{list_any}
 use Rattle.std.specs.Str.{bytes_eq}

@@ -1,4 +1,4 @@
--- What is kept after several puts.
+-- What is kept after several puts (this profile's own).
 use Rattle.std.specs.Prelude.{◌≡◌, ℕ, ◌≤◌, []}
 use Rattle.key_instances.specs.kept.Kept.{Puts, kept, all_put}
 

@@ -1,4 +1,4 @@
--- Worked examples, by computation.
+-- Worked instances: what is kept of puts, by computation (this profile's own).
 use Rattle.std.proofs.Common.{refl}
 use Rattle.std.specs.Prelude.{◌≡◌, [], ◌∷◌, true, false}
 use Rattle.xt_shapes.specs.Vals.{text}

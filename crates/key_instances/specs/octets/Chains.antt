@@ -1,4 +1,4 @@
--- The octets of a key by its parts.
+-- The octets of a key by its parts (DDS-XTypes 1.3, 7.6.8).
 use Rattle.std.specs.Prelude.{ℕ, List, Bool, true, map}
 use Rattle.xt_shapes.specs.declared.leaves.Ext.TheVariants.{Final}
 use Rattle.xt_shapes.specs.declared.leaves.Order.{Order}

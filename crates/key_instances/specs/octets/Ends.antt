@@ -1,4 +1,4 @@
--- Where the longest key ends, as far as a hash is long.
+-- Where the longest key ends, as far as a hash is long (DDS-XTypes 1.3, 7.6.8).
 use Rattle.std.specs.Prelude.{ℕ, Bool, true, false, List, Option, Some, None, min}
 use Rattle.xt_shapes.specs.Shape.{Shape}
 use Rattle.xcdr_model.specs.KeyOctets.{after, repeated, headed, end_of, end_of_members, members_from}

@@ -1,4 +1,4 @@
--- The counted member with the least id from a number on.
+-- The counted member with the least id from a number on, so that a key's parts come by rising id (DDS-XTypes 1.3, 7.6.8).
 use Rattle.std.specs.Prelude.{◌≡◌, ◌≤◌, ◌<◌, ℕ, zero, suc, Bool, true, false, ◌&&◌, nat_le, nat_lt, Option, Some, None}
 use Rattle.xt_shapes.specs.Keyable.{counted}
 use Rattle.xt_shapes.specs.Shape.{Head, Shape, Members, no_members, member}

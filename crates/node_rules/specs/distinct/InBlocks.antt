@@ -1,4 +1,4 @@
--- Blocks of the numbers of a list.
+-- Blocks of the numbers of a list (this profile's own).
 use Rattle.std.specs.Prelude.{◌≡◌, ◌+◌, ℤ, Bool, true, cond, List, [], ◌∷◌, ◌++◌, length}
 use Rattle.std.specs.List.Sorted.{IsPermutation, IsSorted}
 use Rattle.std.specs.Ordering.{int_eq, int_cmp}

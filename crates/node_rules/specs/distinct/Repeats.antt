@@ -1,4 +1,4 @@
--- Whether two of a list are the same, anywhere or next to each other.
+-- Whether two of a list are the same, anywhere or next to each other (this profile's own).
 use Rattle.std.specs.Prelude.{Bool, false, ◌||◌, List, [], ◌∷◌}
 use Rattle.xt_shapes.specs.Lists.{has}
 

@@ -1,5 +1,5 @@
--- The shape that an identifier stands for in a pool of objects: that of its own object and of the identifiers in it, seen so many levels
--- deep (DDS-XTypes 1.3, 7.3.4). Where an identifier can't be followed it says nothing of worth; `is_seen` tells where all can be.
+-- The shape that an identifier stands for in a pool (DDS-XTypes 1.3, 7.3.4): that of its own object and of the identifiers in it, seen so
+-- many levels deep. Where an identifier can't be followed it says nothing of worth; `is_seen` tells where all can be.
 use Rattle.std.specs.Prelude.{ℕ, zero, suc, List, [], ◌∷◌, ◌++◌, map, Bool, true, false, ◌&&◌, Option, Some, None}
 use Rattle.xt_shapes.specs.declared.leaves.Primitive.{Primitive}
 use Rattle.xt_shapes.specs.Lists.{all}

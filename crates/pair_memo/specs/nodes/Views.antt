@@ -1,4 +1,4 @@
--- What the program's nodes, members and cases stand for.
+-- What the program's nodes, members and cases stand for (this profile's own).
 use Rattle.std.specs.Prelude.{List, [], ◌∷◌, map, Bool, true, ◌&&◌}
 use Rattle.node_judge.specs.Bare as without
 use Rattle.node_judge.specs.Objects.{literal_in, flag_in}

@@ -1,4 +1,4 @@
--- What a text declares are types with objects.
+-- The law that each type that a text declares has objects of its own (this profile's own).
 use Rattle.std.specs.Prelude.{◌≡◌, ℕ, true, slice_get, Some, Ok}
 use Rattle.type_trees.specs.Trees.{Tree}
 use Rattle.idl_tokens.specs.Classes.{Text}

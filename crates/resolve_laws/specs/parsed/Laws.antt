@@ -1,4 +1,4 @@
--- What the types that a text declares are, as their objects ask.
+-- The laws that the types that a text declares have their names in full, and come back from their objects (this profile's own).
 use Rattle.std.specs.Prelude.{◌≡◌, ℕ, true, slice_get, Some, Ok}
 use Rattle.type_trees.specs.declared.types.HashId.{HashId}
 use Rattle.type_trees.specs.Trees.{Tree}

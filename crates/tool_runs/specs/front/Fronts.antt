@@ -1,4 +1,4 @@
--- The front of a bundle: its leading records of types.
+-- The front of a bundle: its leading records of types (this profile's own).
 use Rattle.std.specs.Prelude.{ℕ, ◌+◌, Bool, true, false, List, [], ◌∷◌, length, Option, Some, None, Result, Ok, Err, nat_lt, if◌then◌else◌, codes}
 use Rattle.xt_io.specs.declared.Kind.{Kind}
 use Rattle.xt_io.specs.declared.Kind.TheVariants.{Object, Sample, Idl, Json, Note}

@@ -1,4 +1,4 @@
--- What reading a front answers.
+-- What reading a front answers (this profile's own).
 use Rattle.std.specs.Prelude.{◌≡◌, ◌≤◌, [], ◌∷◌, length, List, Option, Some, None, Result, Ok, Err}
 use Rattle.xt_io.specs.declared.Item.{Item}
 use Rattle.xt_io.specs.Bundles.{Bundle, limit_of}

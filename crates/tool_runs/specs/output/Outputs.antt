@@ -1,4 +1,4 @@
--- What a command writes, piece by piece, and how it ends.
+-- What a command writes, piece by piece, and how it ends (this profile's own).
 use Rattle.std.specs.Prelude.{ℕ, ◌+◌, Bool, true, false, List, [], ◌∷◌, ◌++◌, Option, Some, None, Result, Ok, Err, if◌then◌else◌, codes}
 use Rattle.std.specs.List.{concat}
 use Rattle.xt_io.specs.declared.Kind.{Kind}

@@ -1,4 +1,4 @@
--- What a part of a run wrote. Each clause speaks of the output that was to be written, where the source's octets tell it.
+-- What a part of a run wrote (this profile's own). Each clause speaks of the output that was to be written, where the source's octets tell it.
 use Rattle.std.specs.Prelude.{◌≡◌, ℕ, ◌+◌, ◌≤◌, List, [], ◌++◌, true, false, ◌⊎◌, Option, Some, None, Result, Ok, Err, IsErrOf}
 use Rattle.std.specs.Io.KnownBytes.{Appends, IsAtEnd}
 use Rattle.std.specs.List.{concat}
@@ -63,13 +63,14 @@ refusal r = record { text = r.text; cause = r.cause }
 
 -- ---- the counts of faults
 
--- A call that writes and reads nothing: the sink's count never falls, and a write fault comes only where it rose.
+-- How a call halts that may write and doesn't read: it answers no read fault, the sink's count never falls, and a write fault comes only
+-- where that rose.
 pub record HaltsWriting {T : Type 0} (sink_before sink_now : ℕ) (result : Result T Halt) : Type 0 where
   pub sink_later : sink_before ≤ sink_now
   pub no_read : IsErrOf result halts.ReadFault → ⊥
   pub write : IsErrOf result halts.WriteFault → Rose sink_before sink_now
 
--- a call that reads and writes nothing
+-- the same of the source, for a call that may read and doesn't write
 pub record HaltsReading {T : Type 0} (source_before source_now : ℕ) (result : Result T Halt) : Type 0 where
   pub source_later : source_before ≤ source_now
   pub read : IsErrOf result halts.ReadFault → Rose source_before source_now
@@ -113,7 +114,7 @@ abbrev pub StopsBundle : Stop → Type 0
 StopsBundle (stops.Refused r) = r.cause ≡ causes.Bundle
 StopsBundle (stops.Halted halt) = Unit {0}
 
--- What a call that reads and writes nothing answers: what the definition gives, or its refusal, or want of memory.
+-- What a call answers that neither reads nor writes: what the definition gives, or its refusal, or want of memory.
 abbrev pub Comes : {A X : Type 0} → Result A Refusal → (X → A) → Result X Stop → Type 0
 Comes said view (Ok x) = said ≡ Ok (view x)
 Comes said view (Err (stops.Refused r)) = said ≡ Err (refusal r)
@@ -201,13 +202,13 @@ StopsFor (record_fault.UnknownKind at octet) stop = Refuses (broken (record_faul
 StopsFor (record_fault.TooLong at kind n) stop = Refuses (broken (record_fault.TooLong at kind n)) stop
 StopsFor (record_fault.TooMany at) stop = Refuses (broken (record_fault.TooMany at)) stop
 
--- a call that reads and writes nothing
+-- how a call stops that may read and doesn't write, where a refusal is another answer
 pub record StopsReading {T : Type 0} (source_before source_now : ℕ) (result : Result T Stop) : Type 0 where
   pub source_later : source_before ≤ source_now
   pub read : IsErrOf result (stops.Halted halts.ReadFault) → Rose source_before source_now
   pub no_write : IsErrOf result (stops.Halted halts.WriteFault) → ⊥
 
--- a call that writes and reads nothing
+-- how a call stops that may write and doesn't read
 pub record StopsWriting {T : Type 0} (sink_before sink_now : ℕ) (result : Result T Stop) : Type 0 where
   pub later : sink_before ≤ sink_now
   pub no_read : IsErrOf result (stops.Halted halts.ReadFault) → ⊥

@@ -1,4 +1,4 @@
--- The record of a value's sample, or the refusal of a text that is no value.
+-- The record of a value's sample, or the refusal of a text that is no value (this profile's own).
 use Rattle.std.specs.Prelude.{◌≡◌, ℕ, List, [], ◌∷◌, ◌++◌, Result, Ok, Err, codes}
 use Rattle.json_values.specs.declared.faults.ValueFault.{ValueFault}
 use Rattle.json_values.specs.declared.faults.ValueFault.TheVariants.{NotJson, Wrong, OutOfMemory}

@@ -1,4 +1,4 @@
--- What the program's meanings stand for.
+-- What the program's meanings stand for (this profile's own).
 use Rattle.std.specs.Prelude.{◌≡◌, true}
 use Rattle.type_trees.specs.View.{tree}
 use Rattle.projection_laws.specs.Premises.{IsValid}

@@ -1,4 +1,5 @@
--- The payload of a frame as a message. Numbers are little-endian and not aligned.
+-- The payload of a frame as a message of TypeLookup (DDS-XTypes 1.3, 7.6.3.3; the layout is this profile's own). Numbers are little-endian and
+-- not aligned.
 use Rattle.std.specs.Prelude.{◌≡◌, ℕ, zero, suc, ◌||◌, ◌==◌, nat_lt, if◌then◌else◌, Bool, true, false, List, [], ◌∷◌, ◌++◌, length, take, drop, slice_index, Option, Some, None, Result, Ok, Err}
 use Rattle.std.specs.Int.{w32, from_le_bytes}
 use Rattle.type_trees.specs.declared.types.HashId.{HashId}

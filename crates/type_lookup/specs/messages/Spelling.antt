@@ -1,4 +1,4 @@
--- The one spelling of a message as a payload, and of a payload as a frame.
+-- The one spelling of a message of TypeLookup as a payload, and of a payload as a frame (own, but for what is asked: DDS-XTypes 1.3, 7.6.3.3).
 use Rattle.std.specs.Prelude.{◌≡◌, ℕ, ◌≤◌, ◌<◌, ◌^◌, ◌⊎◌, true, List, [], ◌∷◌, ◌++◌, length, slice_index}
 use Rattle.std.specs.List.{All}
 use Rattle.std.specs.Int.{w32, to_le_bytes, to_be_bytes}

@@ -1,4 +1,4 @@
--- Worked examples, checked by computation: the operations' numbers, and payloads.
+-- Worked examples, checked by computation: the operations' numbers, and payloads (this profile's own).
 use Rattle.std.specs.Prelude.{◌≡◌, ℕ, List, [], ◌∷◌, ◌++◌}
 use Rattle.std.proofs.Common.{refl}
 use Rattle.md5.specs.Md5.{block_words, rounds, compress, hash_after, digest_bytes, md5}

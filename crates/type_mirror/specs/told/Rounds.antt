@@ -1,6 +1,5 @@
--- Pushing objects to a peer: putTypes with as many of the next objects as a frame has room for, and after its reply getTypes for each object
--- that clashes there, one identifier at a time. The operations are those of DDS-XTypes 1.3, 7.6.3.3, but putTypes and the rounds, which are this
--- profile's own.
+-- Pushing objects to a peer (this profile's own, but for getTypes: DDS-XTypes 1.3, 7.6.3.3): putTypes with as many of the next objects as a
+-- frame has room for, and after its reply getTypes for each object that clashes there, one identifier at a time.
 use Rattle.std.specs.Prelude.{ℕ, zero, suc, ◌+◌, ◌-◌, List, [], ◌∷◌, ◌++◌, Bool, cond, not, ◌&&◌, Option, Some, None, length, map, take, drop, nat_lt, nat_eq}
 use Rattle.std.specs.List.{list_any}
 use Rattle.std.specs.Str.{bytes_eq}

@@ -1,4 +1,4 @@
--- Worked examples, checked by computation: requests and how a push ends, without an object's text being read.
+-- Worked examples, checked by computation: requests and how a push ends, without an object's text being read (this profile's own).
 use Rattle.std.specs.Prelude.{◌≡◌, ℕ, List, [], ◌∷◌}
 use Rattle.std.proofs.Common.{refl}
 use Rattle.type_lookup.specs.declared.messages.messages.Fetched.{Fetched}

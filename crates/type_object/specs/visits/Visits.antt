@@ -1,5 +1,5 @@
--- Identifiers that are met depth first through objects: an object before those that it refers to, these in the order of its text, each
--- identifier at its first visit (own).
+-- Identifiers that are met depth first through objects (this profile's own): an object before those that it refers to, these in the order
+-- of its text, each identifier at its first visit.
 use Rattle.std.specs.Prelude.{ℕ, zero, suc, List, [], ◌∷◌, ◌++◌, Bool, cond, not, ◌&&◌, Option, Some, None}
 use Rattle.std.specs.Option.{is_some}
 use Rattle.type_trees.specs.declared.types.HashId.{HashId}

@@ -1,4 +1,4 @@
--- Worked examples, checked by computation: the order of visits, and their bound.
+-- Worked examples, checked by computation: the order of visits, and their bound (this profile's own).
 use Rattle.std.specs.Prelude.{◌≡◌, ℕ, ◌==◌, if◌then◌else◌, List, [], ◌∷◌, true}
 use Rattle.std.proofs.Common.{refl}
 use Rattle.type_trees.specs.declared.types.HashId.{HashId}

@@ -1,4 +1,4 @@
--- The rules at the node of a type without a fault, and the types below it.
+-- The laws that each rule holds at the node of a type without a fault, and that the types below it have none (this profile's own).
 use Rattle.std.specs.Prelude.{◌≡◌, ℕ, Bool, true, List, [], ◌∷◌, None}
 use Rattle.type_trees.specs.Trees.{Tree}
 use Rattle.node_rules.specs.Table.{rules_at}

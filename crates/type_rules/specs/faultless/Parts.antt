@@ -1,4 +1,4 @@
--- The types right below a type's own node.
+-- The types right below a type's own node (this profile's own).
 use Rattle.std.specs.Prelude.{List, [], ◌∷◌}
 use Rattle.type_trees.specs.Trees.{Tree, prim, str, enumeration, bitmask, sequence, array, map_of, structure, union, alias, Members, no_members, member, Cases, no_cases, one_case}
 

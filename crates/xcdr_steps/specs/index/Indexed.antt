@@ -1,4 +1,4 @@
--- The members of a structure by their ids.
+-- The members of a structure by their ids (this profile's own).
 use Rattle.std.specs.Prelude.{◌≡◌, ℕ}
 use Rattle.std.specs.BTreeMap.{get}
 use Rattle.std.specs.Ordering.{nat_cmp}

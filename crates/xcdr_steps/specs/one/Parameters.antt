@@ -1,5 +1,5 @@
--- What comes next in a parameter list, told its place: the list's end, an ignored parameter, or a member's header (DDS-XTypes 1.3,
--- 7.4.1.2; which fault comes first is this profile's own).
+-- What comes next in a parameter list (DDS-XTypes 1.3, 7.4.1.2), told its place: the list's end, an ignored parameter, or a member's header
+-- (which fault comes first is this profile's own).
 use Rattle.std.specs.Prelude.{ℕ, cond, Ok, length, nat_lt}
 use Rattle.xt_shapes.specs.declared.leaves.Order.{Order}
 use Rattle.xcdr_model.specs.declared.malformed.Why.TheVariants.{MemberId, MemberSize}

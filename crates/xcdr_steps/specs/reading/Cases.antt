@@ -1,4 +1,4 @@
--- The cases of a union by index, and which of them is read.
+-- The cases of a union by index, and which of them is read (DDS-XTypes 1.3, 7.2.2.4.4).
 use Rattle.std.specs.Prelude.{ℕ, ◌<◌, ℤ, suc, Bool, cond, not, ◌&&◌, ◌==◌, Option, Some, None}
 use Rattle.std.specs.Option.{option_map}
 use Rattle.xt_shapes.specs.Select.{select}

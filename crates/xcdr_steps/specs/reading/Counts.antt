@@ -1,4 +1,4 @@
--- Counts of a collection's parts.
+-- Counts of a collection's parts, given by the type or read (DDS-XTypes 1.3, 7.4).
 use Rattle.std.specs.Prelude.{ℕ, Option, Some, None, Ok}
 use Rattle.xt_shapes.specs.declared.leaves.Order.{Order}
 use Rattle.xcdr_model.specs.Reading.{Spot, Reading, number_at}

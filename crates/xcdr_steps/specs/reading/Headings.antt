@@ -1,4 +1,4 @@
--- What stands where the next member of a list may come: the list's end, octets to pass over, or a member's header.
+-- What stands where the next member of a list may come: the list's end, octets to pass over, or a member's header (this profile's own).
 use Rattle.std.specs.Prelude.{ℕ, ◌-◌, ◌≤◌, Bool}
 use Rattle.xt_wire.specs.cursor.Standing.{Standing, room}
 use Rattle.xcdr_steps.specs.declared.reading.headings.Header.{Header}

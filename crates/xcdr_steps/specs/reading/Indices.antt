@@ -1,4 +1,4 @@
--- The members of a structure by index.
+-- The members of a structure by index (this profile's own).
 use Rattle.std.specs.Prelude.{ℕ, suc, cond, ◌==◌, Option, Some, None}
 use Rattle.std.specs.Option.{option_map}
 use Rattle.xt_shapes.specs.Shape.{Members, no_members, member}

@@ -1,4 +1,4 @@
--- A text whose count was read.
+-- A text whose count was read (DDS-XTypes 1.3, 7.4).
 use Rattle.std.specs.Prelude.{ℕ, ◌-◌, List, Ok}
 use Rattle.xt_shapes.specs.declared.leaves.Order.{Order}
 use Rattle.xcdr_model.specs.Reading.{Spot, Reading, ◌>>=◌, octets_at}

@@ -1,4 +1,4 @@
--- What a decoder answers where its cursor does not go on.
+-- What a decoder answers where its cursor does not go on (this profile's own).
 use Rattle.xt_wire.specs.declared.cursor.cursor.CutFault.{CutFault}
 use Rattle.xt_wire.specs.declared.cursor.cursor.CutFault.TheVariants as cut
 use Rattle.xcdr_model.specs.declared.malformed.Why.TheVariants as why

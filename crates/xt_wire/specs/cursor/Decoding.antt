@@ -1,4 +1,4 @@
--- What it means that a call on a cursor reads as a reading of lists says.
+-- What it means that a call on a cursor reads as a reading of lists says (this profile's own).
 use Rattle.std.specs.Prelude.{◌≡◌, ℕ, ◌+◌, ◌-◌, ◌≤◌, List, take, drop, Some, Result, Ok, Err}
 use Rattle.std.specs.Option.{option_map}
 use Rattle.xt_outside.specs.Outside.{Rose}

@@ -1,4 +1,4 @@
--- Parts that are bounded by regions of their own.
+-- Parts that are bounded by regions of their own (this profile's own).
 use Rattle.std.specs.Prelude.{◌≡◌, ℕ, ◌≤◌, ◌<◌, ◌⊎◌, Result, Ok, Err}
 use Rattle.xt_shapes.specs.declared.leaves.Order.{Order}
 use Rattle.xcdr_model.specs.declared.malformed.Why.TheVariants.{LengthRest}

@@ -1,5 +1,5 @@
--- What comes out of a decoder, beside its being what the reading gives: a value that comes out has the reader's type and is not too
--- large.
+-- What comes out of a decoder, beside its being what the reading gives (this profile's own): a value that comes out has the reader's type and
+-- is not too large.
 use Rattle.std.specs.Prelude.{ℕ, ◌+◌, ◌-◌, ◌*◌, ◌≤◌, take, nat_lt, IsTrue, IfSome}
 use Rattle.xt_shapes.specs.Lists.{all}
 use Rattle.xt_shapes.specs.Nodes.{nodes}

@@ -1,4 +1,4 @@
--- A number with its place, which the cursor counts from the first octet of all.
+-- A number with its place, which the cursor counts from the first octet of all (this profile's own).
 use Rattle.std.specs.Prelude.{ℕ, ◌-◌}
 use Rattle.xt_wire.specs.cursor.Standing.{Standing}
 use Rattle.xt_wire.specs.declared.cursor.reading.Placed.{Placed}

@@ -1,4 +1,4 @@
--- Where a cursor over octets in memory stands.
+-- Where a cursor over octets in memory stands (this profile's own).
 use Rattle.std.specs.Prelude.{ℕ, List, [], length, drop, Option, Some, None}
 use Rattle.std.proofs.Common.{sym, ap, ◌∙◌, length-drop}
 use Rattle.xt_shapes.specs.declared.leaves.Order.TheVariants.{Little}

@@ -1,4 +1,4 @@
--- Where a cursor stands, and what its calls do to that.
+-- Where a cursor stands, and what its calls do to that (this profile's own).
 use Rattle.std.specs.Prelude.{◌≡◌, ℕ, ◌+◌, ◌-◌, ◌^◌, ◌<◌, ◌≤◌, List, length, take, drop, Some, Result, Ok, Err, OnOk, IfSome}
 use Rattle.std.specs.declared.option.Option.{Option}
 use Rattle.std.specs.Option.{option_map}

@@ -1,4 +1,4 @@
--- The readings of a cursor's own calls.
+-- The readings of a cursor's own calls (this profile's own).
 use Rattle.std.specs.Prelude.{ℕ, ◌+◌, min, length, cond, nat_lt, Result, Ok, Err}
 use Rattle.xt_shapes.specs.declared.leaves.Order.{Order}
 use Rattle.xt_wire.specs.declared.cursor.cursor.CutFault.{CutFault}

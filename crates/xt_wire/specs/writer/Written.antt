@@ -1,4 +1,4 @@
--- What contracts see of a writer: its place and the origin of alignment, both below 2 to the 64, and its sink.
+-- What contracts see of a writer: its place and the origin of alignment, both below 2 to the 64, and its sink (this profile's own).
 use Rattle.std.specs.Prelude.{ℕ, List, Option}
 use Rattle.xt_shapes.specs.declared.leaves.Order.{Order}
 
