@@ -1,5 +1,5 @@
 -- The rules at a node of a type, by number, and the first that fails there (DDS-XTypes 1.3, 7.2.2; numbers and order are this profile's own).
--- The rules V15 and V16 are tried for the whole type, and V17 speaks of what a text names as a base.
+-- The rules V15 and V16 are tried for the whole type, and V17 speaks of what a text or an object names as a base.
 use Rattle.std.specs.Prelude.{ℕ, Bool, true, ◌&&◌, cond, map, List, [], ◌∷◌, length, Option, Some, None}
 use Rattle.xt_shapes.specs.declared.leaves.Ext.{Ext}
 use Rattle.type_trees.specs.declared.types.Name.{Name}

@@ -1,5 +1,5 @@
-//! The validity of types: the first of the rules V1 to V16 and V18 that a type breaks; V17 speaks of texts alone. `faultless` has the laws
-//! on what a type without a fault keeps at its own node.
+//! The validity of types: the first of the rules V1 to V16 and V18 that a type breaks; V17 speaks of what a text or an object names as a
+//! base. `faultless` has the laws on what a type without a fault keeps at its own node.
 #![tactic(auto)]
 
 mod depths;
