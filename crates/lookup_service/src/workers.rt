@@ -1,5 +1,5 @@
-//! The service of TypeLookup (DDS-XTypes 1.3, 7.6.3.3) over many links at once: a worker for each door, in threads of their own. Doors, turns
-//! and workers are this profile's own.
+//! The service of TypeLookup (DDS-XTypes 1.3, 7.6.3.3) over many links at once: a worker for each door, in threads of their own
+//! where these can be made. Doors, turns and workers are this profile's own.
 
 mod faults;
 mod halves;

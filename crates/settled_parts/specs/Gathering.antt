@@ -1,5 +1,5 @@
--- Parts of a collection, gathered as they come: what is kept so far, and what those still to come make of it (DDS-XTypes 1.3,
--- 7.2.2.7; the steps are own).
+-- Parts of a collection, gathered as they come (DDS-XTypes 1.3, 7.2.2.7; the steps are own): what is kept so far, and what those still to
+-- come make of it.
 use Rattle.std.specs.Prelude.{ℕ, Bool, true, false, cond, nat_lt, ◌==◌, ◌||◌, List, [], ◌∷◌, ◌++◌, length, Option, Some, None}
 use Rattle.xcdr_model.specs.Projection.{both}
 
