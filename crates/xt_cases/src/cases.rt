@@ -1,45 +1,25 @@
 //! A case: the words and the input of a run, and the output and the status that are wanted.
 
+use crate::faults::{Fault, FaultKind, FaultyRuns, Places, is_behind_all, is_owed, outcome_at};
 use crate::nets::Outside;
+use crate::outcomes::Outcome;
+use crate::records::append;
 use crate::trouble::Trouble;
 use std::alloc::Global;
-use xt_io::Kind;
 use xt_lists::{Row, Text, Word};
 
-/// A source or a sink: the most octets that it gives or takes in a call, and the number of the call that fails, or 0.
-#[derive(Clone, Copy)]
-pub struct Device {
-    pub most: usize,
-    pub fails: u64,
-}
-
-impl Device {
-    /// One whose calls don't fail.
-    pub fn of_width(most: usize) -> Device {
-        Device { most, fails: 0 }
-    }
-
-    /// `MOST [FAILS]`
-    fn parse(text: &str) -> Option<Device> {
-        let (most, fails) = text.split_once(' ').unwrap_or((text, "0"));
-        match (most.parse::<usize>(), fails.parse::<u64>()) {
-            (Ok(most), Ok(fails)) => Some(Device { most, fails }),
-            _ => None,
-        }
-    }
-}
-
-/// The words, the input and the net of a run, and what is wanted of it. Where a source or a sink is told, it is run over these alone.
+/// The words, the input and the net of a run, and what is wanted of it, also where something goes wrong. Where it is told how many octets
+/// the source gives or the sink takes in a call, it is run so alone.
 #[derive(Drop)]
 pub struct Case {
     pub name: String,
     pub words: Row<Word>,
     pub input: Text,
     pub net: Outside,
-    pub source: Option<Device>,
-    pub sink: Option<Device>,
-    pub output: Text,
-    pub status: u8,
+    pub source: Option<usize>,
+    pub sink: Option<usize>,
+    pub outcome: Outcome,
+    pub faulty: Row<FaultyRuns>,
 }
 
 /// The parts of a case. What stands before its first line is a part too.
@@ -50,10 +30,11 @@ enum Part {
     Words,
     Input,
     Net,
-    Device,
+    Width,
     Output,
     Taken,
     Status,
+    Places,
 }
 
 /// The part that a line of this word is of. A word that isn't known is found out where its record is made.
@@ -62,10 +43,11 @@ fn part_of(word: &str) -> Part {
         "case" => Part::Name,
         "words" => Part::Words,
         "link" | "door" | "turn" | "net-fails" => Part::Net,
-        "source" | "sink" => Part::Device,
-        "line" | "out" => Part::Output,
+        "source" | "sink" => Part::Width,
+        "line" | "line-escaped" | "out" => Part::Output,
         "sent" | "held" => Part::Taken,
         "status" => Part::Status,
+        "cut" | "source-fails" | "sink-fails" | "link-fails" => Part::Places,
         _ => Part::Input,
     }
 }
@@ -73,6 +55,11 @@ fn part_of(word: &str) -> Part {
 /// Whether only the words, the input and the net stand before.
 fn is_given(before: Part) -> bool {
     matches!(before, Part::Words | Part::Input | Part::Net)
+}
+
+/// Whether an outcome may begin behind this part.
+fn is_before_outcome(before: Part) -> bool {
+    is_given(before) || matches!(before, Part::Width | Part::Places)
 }
 
 /// Whether a line of the next part may stand behind one of the part before.
@@ -83,9 +70,12 @@ fn may_follow(before: Part, next: Part) -> bool {
         Part::Words => before == Part::Name,
         Part::Input => matches!(before, Part::Words | Part::Input),
         Part::Net => is_given(before),
-        Part::Device => is_given(before) || before == Part::Device,
-        Part::Output => is_given(before) || matches!(before, Part::Device | Part::Output),
-        Part::Taken | Part::Status => !matches!(before, Part::Front | Part::Name | Part::Status),
+        Part::Width => is_given(before) || before == Part::Width,
+        Part::Output => is_before_outcome(before) || before == Part::Output,
+        Part::Taken | Part::Status => {
+            is_before_outcome(before) || matches!(before, Part::Output | Part::Taken)
+        }
+        Part::Places => before == Part::Status,
     }
 }
 
@@ -98,8 +88,8 @@ impl Case {
             net: Outside::new(alloc),
             source: None,
             sink: None,
-            output: Text::new(alloc),
-            status: 0,
+            outcome: Outcome::new(alloc),
+            faulty: Row::new(alloc),
         }
     }
 
@@ -136,10 +126,9 @@ impl Case {
             Part::Words => self.take_words(alloc, text)?,
             Part::Input => append(alloc, &mut self.input, word, text)?,
             Part::Net => self.net.take(alloc, word, text)?,
-            Part::Device => self.take_device(word, text),
-            Part::Output => self.take_output(alloc, word, text)?,
-            Part::Taken => self.net.want(alloc, word, text)?,
-            Part::Status => self.take_status(text),
+            Part::Width => self.take_width(word, text),
+            Part::Output | Part::Taken | Part::Status => self.take_outcome(alloc, word, text)?,
+            Part::Places => self.take_places(alloc, word, text)?,
         };
         Ok(if taken { Some(part) } else { None })
     }
@@ -156,108 +145,62 @@ impl Case {
         Ok(true)
     }
 
-    fn take_device(&mut self, word: &str, text: &str) -> bool {
-        let device = Device::parse(text);
-        let is_one = device.is_some();
+    fn take_width(&mut self, word: &str, text: &str) -> bool {
+        let width = text.parse::<usize>().ok();
         if word == "source" {
-            self.source = device;
+            self.source = width;
         } else {
-            self.sink = device;
+            self.sink = width;
         }
-        is_one
+        width.is_some()
     }
 
-    fn take_output(&mut self, alloc: Global, word: &str, text: &str) -> Result<bool, Trouble> {
-        if word == "line" {
-            self.output.append(text.as_bytes())?;
-            self.output.push(b'\n')?;
-            return Ok(true);
-        }
-        let (word, text) = text.split_once(' ').unwrap_or((text, ""));
-        append(alloc, &mut self.output, word, text)
-    }
-
-    fn take_status(&mut self, text: &str) -> bool {
-        match text.parse::<u8>() {
-            Ok(status) => {
-                self.status = status;
-                true
-            }
-            Err(_) => false,
+    /// Takes a line of the outcome that was begun last.
+    fn take_outcome(&mut self, alloc: Global, word: &str, text: &str) -> Result<bool, Trouble> {
+        match self.faulty.items().last_mut() {
+            Some(faulty) => faulty.outcome.take(alloc, word, text),
+            None => self.outcome.take(alloc, word, text),
         }
     }
-}
 
-/// The kind of a record whose payload is given as a text.
-fn kind_of_text(word: &str) -> Option<Kind> {
-    match word {
-        "idl" => Some(Kind::Idl),
-        "json" => Some(Kind::Json),
-        "note" => Some(Kind::Note),
-        _ => None,
-    }
-}
-
-/// The kind of a record whose payload is given in hexadecimal.
-fn kind_of_hex(word: &str) -> Option<Kind> {
-    match word {
-        "idl-hex" => Some(Kind::Idl),
-        "json-hex" => Some(Kind::Json),
-        "note-hex" => Some(Kind::Note),
-        "sample" => Some(Kind::Sample),
-        "object" => Some(Kind::Object),
-        _ => None,
-    }
-}
-
-/// Appends the record that a word and a text stand for, or octets alone. False where they stand for none.
-fn append(alloc: Global, into: &mut Text, word: &str, text: &str) -> Result<bool, Trouble> {
-    if let Some(kind) = kind_of_text(word) {
-        return append_record(into, kind, text.as_bytes());
-    }
-    if word == "samples" {
-        return append_samples(alloc, into, text);
-    }
-    let Ok(octets) = hex::decode(alloc, text) else {
-        return Ok(false);
-    };
-    match kind_of_hex(word) {
-        Some(kind) => append_record(into, kind, octets.as_slice()),
-        None if word == "raw" => {
-            into.append(octets.as_slice())?;
-            Ok(true)
-        }
-        None => Ok(false),
-    }
-}
-
-/// Appends so many samples, each with these octets and its number behind them, as four octets in little-endian order. False where the text
-/// is no number and octets in hexadecimal.
-fn append_samples(alloc: Global, into: &mut Text, text: &str) -> Result<bool, Trouble> {
-    let (count, octets) = text.split_once(' ').unwrap_or((text, ""));
-    let Ok(count) = count.parse::<u32>() else {
-        return Ok(false);
-    };
-    let Ok(octets) = hex::decode(alloc, octets) else {
-        return Ok(false);
-    };
-    for number in 0..count {
-        let mut payload = Text::from_octets(alloc, octets.as_slice())?;
-        payload.append(&number.to_le_bytes())?;
-        if !append_record(into, Kind::Sample, payload.octets())? {
+    /// Begins the outcome of the runs in which something goes wrong at these places, which are behind all others of their kind. Where a call
+    /// of a link fails by the case itself, no others fail in turn.
+    fn take_places(&mut self, alloc: Global, word: &str, text: &str) -> Result<bool, Trouble> {
+        let (Some(kind), Some(places)) = (FaultKind::parse(word), Places::parse(text)) else {
+            return Ok(false);
+        };
+        if !is_behind_all(self.faulty.as_slice(), kind, places) {
             return Ok(false);
         }
+        if kind == FaultKind::Link && self.net.has_failing_link() {
+            return Ok(false);
+        }
+        let outcome = Outcome::new(alloc);
+        self.faulty.push(FaultyRuns {
+            kind,
+            places,
+            outcome,
+        })?;
+        Ok(true)
     }
-    Ok(true)
-}
 
-/// Appends a record: its kind, its length and its payload. False where its length has no 32 bits.
-fn append_record(into: &mut Text, kind: Kind, payload: &[u8]) -> Result<bool, Trouble> {
-    let Ok(length) = u32::try_from(payload.len()) else {
-        return Ok(false);
-    };
-    into.push(kind.octet())?;
-    into.append(&length.to_be_bytes())?;
-    into.append(payload)?;
-    Ok(true)
+    /// The octets of the input that a run with this fault is given.
+    pub fn input_under(&self, fault: Option<Fault>) -> &[u8] {
+        let octets = self.input.octets();
+        match Fault::call(fault, FaultKind::Cut) {
+            Some(place) => &octets[..octets.len().min(place as usize)],
+            None => octets,
+        }
+    }
+
+    /// What is wanted of a run with this fault: what is told of its place if it came about, and else the outcome without a fault. None where
+    /// nothing is told of a fault that came about, or where one had to that did not.
+    pub fn wanted(&self, fault: Option<Fault>, came_about: bool) -> Option<&Outcome> {
+        match fault {
+            None => Some(&self.outcome),
+            Some(fault) if came_about => outcome_at(self.faulty.as_slice(), fault),
+            Some(fault) if is_owed(self.faulty.as_slice(), fault) => None,
+            Some(_) => Some(&self.outcome),
+        }
+    }
 }

@@ -1,37 +1,44 @@
-//! Runs the whole program over cases that are read from standard input, and prints a line for each case: `ok` and its name, or `failed`,
-//! its name, and what came in place of what was wanted. `stdin` has the cases, and says how they are written.
+//! Runs the whole program over cases that are read from standard input. It prints those that fail, each with what was wanted and what came,
+//! and at last how many there were and how many of them failed. `stdin` has the cases, and says how they are written.
 #![tactic(auto)]
 
 mod cases;
+mod escapes;
+mod faults;
 mod nets;
+mod outcomes;
+mod records;
 mod runs;
 mod trouble;
 
 use cases::Case;
-use runs::run;
+use runs::{Failure, first_failure};
 use std::alloc::Global;
 use std::io;
 use std::process::ExitCode;
 use std::thread::Threads;
 use trouble::Trouble;
 
-/// Runs a case at each of the widths, and prints its line.
-fn report<R: Print + Threads + Sync>(rt: &R, alloc: Global, case: &Case) -> Result<(), Trouble> {
-    let name = case.name.as_str();
-    match run(rt, alloc, case)? {
-        None => println!(rt; "ok {name}")?,
-        Some(wrong) => println!(rt; "failed {name}: {wrong}")?,
-    }
-    Ok(())
+fn report(rt: &impl Print, name: &str, failure: &Failure) -> io::Result<()> {
+    println!(rt; "failed {name}: {}", failure.run)?;
+    println!(rt; "  wanted: {}", failure.difference.wanted)?;
+    println!(rt; "  came:   {}", failure.difference.came)
 }
 
 /// Runs the cases of a text, one after another. An empty line ends a case.
 fn run_all<R: Print + Threads + Sync>(rt: &R, alloc: Global, text: &str) -> Result<(), Trouble> {
+    let (mut cases, mut failed) = (0u64, 0u64);
     for block in text.split("\n\n") {
-        if let Some(case) = Case::parse(alloc, block)? {
-            report(rt, alloc, &case)?;
+        let Some(case) = Case::parse(alloc, block)? else {
+            continue;
+        };
+        cases = cases.saturating_add(1);
+        if let Some(failure) = first_failure(rt, alloc, &case)? {
+            failed = failed.saturating_add(1);
+            report(rt, case.name.as_str(), &failure)?;
         }
     }
+    println!(rt; "{cases} cases, {failed} failed")?;
     Ok(())
 }
 

@@ -1,76 +1,83 @@
-//! The net of a case: what peers send, which call fails, and what peers are to get.
+//! The net of a case: what peers send, and which call fails.
 
+use crate::faults::list_of;
+use crate::records::hexadecimal;
 use crate::trouble::Trouble;
 use std::alloc::Global;
 use xt_io::{MemDoor, MemNet, Script, Turn};
 use xt_lists::{OutOfMemory, Row, Text};
 
-/// A link: the octets that its peer sends, and the number of the call that fails, or 0.
+/// A link: the octets that its peer sends, and the number of the call that fails, if one does.
 #[derive(Drop)]
 pub struct Peer {
     pub octets: Text,
-    pub fails: u64,
+    pub fails: Option<u64>,
 }
 
-/// A door: the links that come in, in order, and the number of the call that fails, or 0.
+/// A door: the links that come in, in order, and the number of the call that fails, if one does.
 #[derive(Drop)]
 pub struct Entrance {
     pub peers: Row<Peer>,
-    pub fails: u64,
+    pub fails: Option<u64>,
 }
 
-/// The net of a case: the link of a client, the doors of a service, and the number of the call that fails, or 0. Behind them what is wanted:
-/// what the client's link took, and what each link of a door took, door by door.
+/// The net of a case: the link of a client, the doors of a service, and the number of the call that fails, if one does.
 #[derive(Drop)]
 pub struct Outside {
     pub link: Option<Peer>,
     pub doors: Row<Entrance>,
-    pub fails: u64,
-    pub sent: Option<Text>,
-    pub held: Row<Text>,
+    pub fails: Option<u64>,
+}
+
+/// How the links of a run are: the most octets that they give or take in a call, and the number of the call that fails at each, if one does.
+#[derive(Clone, Copy)]
+pub struct Links {
+    pub most: usize,
+    pub fails: Option<u64>,
 }
 
 impl Peer {
     /// `HEX [FAILS]`
     fn parse(alloc: Global, text: &str) -> Result<Option<Peer>, Trouble> {
-        let (octets, fails) = text.split_once(' ').unwrap_or((text, "0"));
-        let Ok(fails) = fails.parse::<u64>() else {
-            return Ok(None);
+        let (octets, fails) = match text.split_once(' ') {
+            None => (text, None),
+            Some((octets, number)) => match number.parse::<u64>() {
+                Ok(number) => (octets, Some(number)),
+                Err(_) => return Ok(None),
+            },
         };
-        match hex::decode(alloc, octets) {
-            Ok(octets) => Ok(Some(Peer {
-                octets: Text::from_octets(alloc, octets.as_slice())?,
-                fails,
-            })),
-            Err(_) => Ok(None),
+        match hexadecimal(alloc, octets)? {
+            Some(octets) => Ok(Some(Peer { octets, fails })),
+            None => Ok(None),
         }
     }
 
-    /// A link that gives and takes at most so many octets a call.
-    fn script(&self, alloc: Global, most: usize) -> Result<Script, OutOfMemory> {
+    fn script(&self, alloc: Global, links: Links) -> Result<Script, OutOfMemory> {
         Ok(Script {
             input: Text::from_octets(alloc, self.octets.octets())?,
-            most,
-            fails: one_call(alloc, self.fails)?,
+            most: links.most,
+            fails: list_of(alloc, &[self.fails, links.fails])?,
         })
     }
 }
 
-// The list of the calls that fail.
-fn one_call(alloc: Global, number: u64) -> Result<Row<u64>, OutOfMemory> {
-    let mut calls = Row::new(alloc);
-    calls.push(number)?;
-    Ok(calls)
-}
-
 impl Entrance {
-    fn door(&self, alloc: Global, most: usize) -> Result<MemDoor, OutOfMemory> {
+    fn door(&self, alloc: Global, links: Links) -> Result<MemDoor, OutOfMemory> {
         let mut turns = Row::new(alloc);
         for peer in self.peers.as_slice() {
-            turns.push(Turn::Waiting(peer.script(alloc, most)?))?;
+            turns.push(Turn::Waiting(peer.script(alloc, links)?))?;
         }
-        let fails = one_call(alloc, self.fails)?;
+        let fails = list_of(alloc, &[self.fails])?;
         Ok(MemDoor::new(turns, fails))
+    }
+
+    fn has_failing_link(&self) -> bool {
+        for peer in self.peers.as_slice() {
+            if peer.fails.is_some() {
+                return true;
+            }
+        }
+        false
     }
 }
 
@@ -79,9 +86,7 @@ impl Outside {
         Outside {
             link: None,
             doors: Row::new(alloc),
-            fails: 0,
-            sent: None,
-            held: Row::new(alloc),
+            fails: None,
         }
     }
 
@@ -94,15 +99,15 @@ impl Outside {
             }
             "door" => self.take_door(alloc, text),
             "turn" => self.take_turn(alloc, text),
-            _ => self.take_fails(text),
+            _ => Ok(self.take_fails(text)),
         }
     }
 
     fn take_door(&mut self, alloc: Global, text: &str) -> Result<bool, Trouble> {
-        let text = if text.is_empty() { "0" } else { text };
-        let Ok(fails) = text.parse::<u64>() else {
+        let fails = text.parse::<u64>().ok();
+        if fails.is_none() && !text.is_empty() {
             return Ok(false);
-        };
+        }
         let peers = Row::new(alloc);
         self.doors.push(Entrance { peers, fails })?;
         Ok(true)
@@ -117,78 +122,85 @@ impl Outside {
         Ok(true)
     }
 
-    fn take_fails(&mut self, text: &str) -> Result<bool, Trouble> {
-        match text.parse::<u64>() {
-            Ok(fails) => {
-                self.fails = fails;
-                Ok(true)
+    fn take_fails(&mut self, text: &str) -> bool {
+        self.fails = text.parse::<u64>().ok();
+        self.fails.is_some()
+    }
+
+    /// Whether a call of a link fails by the case itself.
+    pub fn has_failing_link(&self) -> bool {
+        for door in self.doors.as_slice() {
+            if door.has_failing_link() {
+                return true;
             }
-            Err(_) => Ok(false),
+        }
+        match &self.link {
+            Some(peer) => peer.fails.is_some(),
+            None => false,
         }
     }
 
-    /// Takes a line of what peers are to get. False where it is none.
-    pub fn want(&mut self, alloc: Global, word: &str, text: &str) -> Result<bool, Trouble> {
-        let Ok(octets) = hex::decode(alloc, text) else {
-            return Ok(false);
-        };
-        let octets = Text::from_octets(alloc, octets.as_slice())?;
-        if word == "sent" {
-            self.sent = Some(octets);
-        } else {
-            self.held.push(octets)?;
-        }
-        Ok(true)
-    }
-
-    /// The net, whose links give and take at most so many octets a call.
-    pub fn net(&self, alloc: Global, most: usize) -> Result<MemNet, OutOfMemory> {
+    /// The net, with links that are so.
+    pub fn net(&self, alloc: Global, links: Links) -> Result<MemNet, OutOfMemory> {
         let mut doors = Row::new(alloc);
         for door in self.doors.as_slice() {
-            doors.push(door.door(alloc, most)?)?;
+            doors.push(door.door(alloc, links)?)?;
         }
         let link = match &self.link {
-            Some(peer) => Some(peer.script(alloc, most)?),
+            Some(peer) => Some(peer.script(alloc, links)?),
             None => None,
         };
-        let fails = one_call(alloc, self.fails)?;
+        let fails = list_of(alloc, &[self.fails])?;
         Ok(MemNet::new(alloc, doors, link, fails))
-    }
-
-    /// Whether the links took what was wanted.
-    pub fn is_met(&self, net: &MemNet) -> bool {
-        let is_sent = match (&self.sent, net.heard()) {
-            (Some(sent), Some(link)) => link.octets() == sent.octets(),
-            (Some(_), None) => false,
-            (None, _) => true,
-        };
-        is_sent && (self.held.as_slice().is_empty() || self.are_held(net.held()))
-    }
-
-    // Each link that was given back took what is wanted of it, and there is one for each.
-    fn are_held(&self, doors: &[MemDoor]) -> bool {
-        let mut wanted = self.held.as_slice();
-        for door in doors {
-            match after_door(door, wanted) {
-                Some(rest) => wanted = rest,
-                None => return false,
-            }
-        }
-        wanted.is_empty()
     }
 }
 
-// What is wanted behind the links of a door.
-fn after_door<'a>(door: &MemDoor, wanted: &'a [Text]) -> Option<&'a [Text]> {
-    let mut wanted = wanted;
+/// What the client's link took, if it was given back.
+pub fn sent_over(alloc: Global, net: &MemNet) -> Result<Option<Text>, OutOfMemory> {
+    match net.heard() {
+        Some(link) => Ok(Some(Text::from_octets(alloc, link.octets())?)),
+        None => Ok(None),
+    }
+}
+
+/// What each link that was given back to a door took, door by door.
+pub fn held_by(alloc: Global, net: &MemNet) -> Result<Row<Text>, OutOfMemory> {
+    let mut held = Row::new(alloc);
+    for door in net.held() {
+        append_held(alloc, &mut held, door)?;
+    }
+    Ok(held)
+}
+
+fn append_held(alloc: Global, held: &mut Row<Text>, door: &MemDoor) -> Result<(), OutOfMemory> {
     for turn in door.turns() {
         if let Turn::Ended(link) = turn {
-            let (first, rest) = wanted.split_first()?;
-            if link.octets() != first.octets() {
-                return None;
-            }
-            wanted = rest;
+            held.push(Text::from_octets(alloc, link.octets())?)?;
         }
     }
-    Some(wanted)
+    Ok(())
+}
+
+/// Whether a call of a link that was given back has failed.
+pub fn has_failed_link(net: &MemNet) -> bool {
+    for door in net.held() {
+        if has_failed_turn(door) {
+            return true;
+        }
+    }
+    match net.heard() {
+        Some(link) => link.faults() > 0,
+        None => false,
+    }
+}
+
+fn has_failed_turn(door: &MemDoor) -> bool {
+    for turn in door.turns() {
+        if let Turn::Ended(link) = turn {
+            if link.faults() > 0 {
+                return true;
+            }
+        }
+    }
+    false
 }

@@ -1,44 +1,222 @@
-//! A case run over a source and a sink in memory, of several widths.
+//! A case run over a source and a sink in memory, of several widths, and with each fault that it tells of.
 
-use crate::cases::{Case, Device};
+use crate::cases::Case;
+use crate::faults::{Fault, FaultKind, has_kind, list_of};
+use crate::nets::{Links, has_failed_link, held_by, sent_over};
+use crate::outcomes::{Difference, Outcome};
 use crate::trouble::Trouble;
 use std::alloc::Global;
 use std::thread::Threads;
-use xt_io::{MemSink, MemSource};
+use xt_io::{MemNet, MemSink, MemSource};
+use xt_lists::Text;
 use xt_tool::xt;
 
 /// A width that no case reaches.
 const ALL: usize = usize::MAX;
 
 /// The most octets that the source gives in a read, and that the sink takes in a write.
-const WIDTHS: [(usize, usize); 6] = [(1, 1), (2, ALL), (3, 1), (7, ALL), (ALL, 1), (ALL, ALL)];
+#[derive(Clone, Copy)]
+struct Widths {
+    read: usize,
+    write: usize,
+}
 
-/// The most octets of a text that are told, and how many of them may stand before the first that differs.
-const MOST_TOLD: usize = 160;
+const WIDTHS: [Widths; 6] = [
+    Widths { read: 1, write: 1 },
+    Widths {
+        read: 2,
+        write: ALL,
+    },
+    Widths { read: 3, write: 1 },
+    Widths {
+        read: 7,
+        write: ALL,
+    },
+    Widths {
+        read: ALL,
+        write: 1,
+    },
+    Widths {
+        read: ALL,
+        write: ALL,
+    },
+];
 
-const MOST_BEFORE: usize = 60;
+/// A run of a case: its widths, and what goes wrong in it.
+#[derive(Clone, Copy)]
+struct Run<'c> {
+    case: &'c Case,
+    widths: Widths,
+    fault: Option<Fault>,
+}
 
-/// What differs over the source and the sink that the case tells, or else at the first widths at which something does.
-pub fn run<R: Threads + Sync>(
+/// Which run of a case ended otherwise than was wanted, and how.
+#[derive(Drop)]
+pub struct Failure {
+    pub run: String,
+    pub difference: Difference,
+}
+
+/// How a run ended. A fault may not have come about, as there was no such octet or call.
+#[derive(Drop)]
+struct Ran {
+    failure: Option<Failure>,
+    came_about: bool,
+}
+
+/// The first failure of a case, over the widths that it tells, or else over all.
+pub fn first_failure<R: Threads + Sync>(
     rt: &R,
     alloc: Global,
     case: &Case,
-) -> Result<Option<String>, Trouble> {
+) -> Result<Option<Failure>, Trouble> {
     if case.source.is_some() || case.sink.is_some() {
-        let source = case.source.unwrap_or(Device::of_width(ALL));
-        let sink = case.sink.unwrap_or(Device::of_width(ALL));
-        return run_over(rt, alloc, case, source, sink);
+        let read = case.source.unwrap_or(ALL);
+        let write = case.sink.unwrap_or(ALL);
+        return run_over(rt, alloc, case, Widths { read, write });
     }
-    for (read, write) in WIDTHS {
-        let (source, sink) = (Device::of_width(read), Device::of_width(write));
-        if let Some(wrong) = run_over(rt, alloc, case, source, sink)? {
-            let read = width_told(alloc, read)?;
-            let write = width_told(alloc, write)?;
-            let told = format!(in alloc; "{wrong} ({read} octets a read, {write} a write)")?;
-            return Ok(Some(told));
+    for widths in WIDTHS {
+        let failure = run_over(rt, alloc, case, widths)?;
+        if failure.is_some() {
+            return Ok(failure);
         }
     }
     Ok(None)
+}
+
+/// The first failure at these widths, without a fault or with one.
+fn run_over<R: Threads + Sync>(
+    rt: &R,
+    alloc: Global,
+    case: &Case,
+    widths: Widths,
+) -> Result<Option<Failure>, Trouble> {
+    let fault = None;
+    let run = Run {
+        case,
+        widths,
+        fault,
+    };
+    let ran = run.end(rt, alloc)?;
+    if ran.failure.is_some() {
+        return Ok(ran.failure);
+    }
+    for kind in FaultKind::ALL {
+        let failure = run_faults(rt, alloc, run, kind)?;
+        if failure.is_some() {
+            return Ok(failure);
+        }
+    }
+    Ok(None)
+}
+
+/// The first failure with a fault of this kind, where the case tells of any: at each place in turn, up to the first that there is not.
+fn run_faults<R: Threads + Sync>(
+    rt: &R,
+    alloc: Global,
+    run: Run<'_>,
+    kind: FaultKind,
+) -> Result<Option<Failure>, Trouble> {
+    if !has_kind(run.case.faulty.as_slice(), kind) {
+        return Ok(None);
+    }
+    for place in kind.first_place()..u64::MAX {
+        let fault = Some(Fault { kind, place });
+        let ran = Run { fault, ..run }.end(rt, alloc)?;
+        if ran.failure.is_some() || !ran.came_about {
+            return Ok(ran.failure);
+        }
+    }
+    Ok(None)
+}
+
+impl<'c> Run<'c> {
+    /// Runs the case, and compares how it ended with what is wanted.
+    fn end<R: Threads + Sync>(self, rt: &R, alloc: Global) -> Result<Ran, Trouble> {
+        let (case, widths, fault) = (self.case, self.widths, self.fault);
+        let reads = list_of(alloc, &[Fault::call(fault, FaultKind::Source)])?;
+        let writes = list_of(alloc, &[Fault::call(fault, FaultKind::Sink)])?;
+        let mut input = MemSource::new(case.input_under(fault), widths.read, reads.as_slice());
+        let mut output = MemSink::new(alloc, widths.write, writes.as_slice());
+        let mut net = case.net.net(alloc, self.links())?;
+        let words = case.words.as_slice();
+        let status = xt(rt, alloc, words, &mut input, &mut output, &mut net) as u8;
+        let came = Outcome {
+            output: Text::from_octets(alloc, output.octets())?,
+            sent: sent_over(alloc, &net)?,
+            held: held_by(alloc, &net)?,
+            status,
+        };
+        let came_about = self.came_about(&input, &output, &net);
+        let failure = self.failure(alloc, &came, came_about)?;
+        Ok(Ran {
+            failure,
+            came_about,
+        })
+    }
+
+    fn links(self) -> Links {
+        Links {
+            most: self.widths.read,
+            fails: Fault::call(self.fault, FaultKind::Link),
+        }
+    }
+
+    /// Whether the fault came about.
+    fn came_about(self, input: &MemSource<'_>, output: &MemSink<'_>, net: &MemNet) -> bool {
+        let Some(fault) = self.fault else {
+            return false;
+        };
+        match fault.kind {
+            FaultKind::Cut => self.case.input_under(self.fault).len() < self.case.input.len(),
+            FaultKind::Source => input.faults() > 0,
+            FaultKind::Sink => output.faults() > 0,
+            FaultKind::Link => has_failed_link(net),
+        }
+    }
+
+    /// What is wrong with the outcome that came.
+    fn failure(
+        self,
+        alloc: Global,
+        came: &Outcome,
+        came_about: bool,
+    ) -> Result<Option<Failure>, Trouble> {
+        let difference = match self.case.wanted(self.fault, came_about) {
+            Some(wanted) => wanted.difference(alloc, came)?,
+            None => Some(other_place(alloc, came_about)?),
+        };
+        let Some(difference) = difference else {
+            return Ok(None);
+        };
+        let run = self.told(alloc)?;
+        Ok(Some(Failure { run, difference }))
+    }
+
+    /// The run in print.
+    fn told(self, alloc: Global) -> Result<String, Trouble> {
+        let read = width_told(alloc, self.widths.read)?;
+        let write = width_told(alloc, self.widths.write)?;
+        let told = format!(in alloc; "source {read}, sink {write}")?;
+        let Some(fault) = self.fault else {
+            return Ok(told);
+        };
+        let word = fault.kind.word();
+        Ok(format!(in alloc; "{told}, {word} {}", fault.place)?)
+    }
+}
+
+/// A place of which nothing is told, or of which something is though there is none.
+fn other_place(alloc: Global, came_about: bool) -> Result<Difference, Trouble> {
+    let (wanted, came) = if came_about {
+        ("nothing told of this place", "a run at it")
+    } else {
+        ("this place", "a run that ends before it")
+    };
+    Ok(Difference {
+        wanted: String::from_str(alloc, wanted)?,
+        came: String::from_str(alloc, came)?,
+    })
 }
 
 fn width_told(alloc: Global, width: usize) -> Result<String, Trouble> {
@@ -46,70 +224,4 @@ fn width_told(alloc: Global, width: usize) -> Result<String, Trouble> {
         return Ok(String::from_str(alloc, "all")?);
     }
     Ok(format!(in alloc; "{width}")?)
-}
-
-/// What differs over this source and this sink.
-fn run_over<R: Threads + Sync>(
-    rt: &R,
-    alloc: Global,
-    case: &Case,
-    source: Device,
-    sink: Device,
-) -> Result<Option<String>, Trouble> {
-    let (reads, writes) = ([source.fails], [sink.fails]);
-    let mut input = MemSource::new(case.input.octets(), source.most, &reads);
-    let mut output = MemSink::new(alloc, sink.most, &writes);
-    let mut net = case.net.net(alloc, source.most)?;
-    let words = case.words.as_slice();
-    let status = xt(rt, alloc, words, &mut input, &mut output, &mut net) as u8;
-    if output.octets() != case.output.octets() {
-        return Ok(Some(other_text(alloc, case, output.octets(), status)?));
-    }
-    if status != case.status {
-        let wanted = case.status;
-        return Ok(Some(format!(in alloc; "status {status}, not {wanted}")?));
-    }
-    if !case.net.is_met(&net) {
-        return Ok(Some(String::from_str(alloc, "other octets for a peer")?));
-    }
-    Ok(None)
-}
-
-/// Tells the place of the first octet that differs, and the two texts there.
-fn other_text(alloc: Global, case: &Case, given: &[u8], status: u8) -> Result<String, Trouble> {
-    let at = first_difference(given, case.output.octets());
-    let from = at.saturating_sub(MOST_BEFORE);
-    let given = text_told(alloc, given, from)?;
-    let wanted = text_told(alloc, case.output.octets(), from)?;
-    let told = format!(in alloc; "at {at} `{given}`, not `{wanted}`")?;
-    if status == case.status {
-        return Ok(told);
-    }
-    let wanted = case.status;
-    Ok(format!(in alloc; "{told}, and status {status}, not {wanted}")?)
-}
-
-/// How many first octets are the same.
-fn first_difference(given: &[u8], wanted: &[u8]) -> usize {
-    let mut at = 0usize;
-    for (given, wanted) in given.iter().zip(wanted.iter()) {
-        if *given != *wanted {
-            return at;
-        }
-        at = at.saturating_add(1);
-    }
-    at
-}
-
-/// Some octets in print, from this place on.
-fn text_told(alloc: Global, octets: &[u8], from: usize) -> Result<String, Trouble> {
-    let mut text = String::new(alloc);
-    for octet in octets.iter().skip(from).take(MOST_TOLD) {
-        match *octet {
-            b'\n' => text.push_str("\\n")?,
-            b' '..=b'~' => text.push(char::from(*octet))?,
-            other => write!(text, "\\x{other:02x}")?,
-        }
-    }
-    Ok(text)
 }
