@@ -1,3 +1,4 @@
 pub mod OfListing
 pub mod Wrapped
 pub mod Quiet
+pub mod Told

@@ -2,3 +2,4 @@ pub mod listing
 pub mod Commands
 pub mod Wrapping
 pub mod Making
+pub mod Comparing

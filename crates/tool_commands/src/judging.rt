@@ -1,13 +1,13 @@
 ghost use Rattle.std.specs.Prelude.{◌≡◌, ◌≤◌, Some, length};
-ghost use Rattle.tool_runs.specs.output.Outputs.{finished, unless_refused};
-ghost use Rattle.tool_runs.specs.output.Runs.{Steps, StopsWriting};
+ghost use Rattle.tool_runs.specs.output.Outputs.{unless_refused};
+ghost use Rattle.tool_runs.specs.output.Runs.{Steps, StopsWriting, at_ending};
 ghost use Rattle.tool_runs.specs.front.Reading.{AreWithin};
 ghost use Rattle.tool_runs.specs.Commands.{answer_to};
 ghost use Rattle.tool_words.specs.View.{pair_view};
 ghost use Rattle.tool_commands.specs.Commands.{judge_lines};
 
 use std::alloc::Global;
-use tool_runs::output::{Stop, Style};
+use tool_runs::output::{Ending, Stop, Style};
 use tool_runs::{Answers, say_pieces};
 use tool_verdicts::reader_type;
 use tool_words::Pair;
@@ -24,7 +24,7 @@ impl<'a> Answers for Judging<'a> {
 
     ghost style = { styles.Lines };
 
-    ghost answered = { λ s records. judge_lines (pair_view s.pair) records };
+    ghost answered = { λ s records. answer_to (judge_lines (pair_view s.pair)) records };
 
     fn writes() -> Style
         ensures { result ≡ Style.Lines }
@@ -32,16 +32,19 @@ impl<'a> Answers for Judging<'a> {
         Style::Lines
     }
 
-    fn answer<K: Sink>(&self, alloc: Global, records: &[Item], sink: &mut K) -> Result<(), Stop>
+    fn answer<K: Sink>(&self, alloc: Global, records: &[Item], sink: &mut K) -> Result<Ending, Stop>
         requires few { length records.now ≤ 1048576 }
         requires within { AreWithin records.now }
-        ensures steps { Steps Style.Lines (Some (unless_refused Style.Lines (answer_to (judge_lines (pair_view self.now.pair)) records.now))) (Some finished) result (K.taken sink.old) (K.taken sink.new) }
+        ensures steps { Steps Style.Lines (Some (unless_refused Style.Lines (answer_to (judge_lines (pair_view self.now.pair)) records.now))) (at_ending result) result (K.taken sink.old) (K.taken sink.new) }
         ensures stops { StopsWriting (K.faults sink.old) (K.faults sink.new) result }
         ensures same { K.name sink.new ≡ K.name sink.old }
     {
         match reader_type(alloc, &self.pair, records) {
             Err(stop) => Err(stop),
-            Ok(_) => say_pieces(sink, b"yes\n"),
+            Ok(_) => match say_pieces(sink, b"yes\n") {
+                Err(stop) => Err(stop),
+                Ok(()) => Ok(Ending::Done),
+            },
         }
     }
 }

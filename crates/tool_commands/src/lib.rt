@@ -1,6 +1,7 @@
 //! The commands that end without a net: what each makes of the bundle on its input; `make` reads none.
 #![tactic(auto)]
 
+mod comparing;
 mod judging;
 mod keeping;
 pub mod listing;
@@ -11,6 +12,7 @@ mod replaying;
 mod wrapping;
 mod writing;
 
+pub use comparing::Comparing;
 pub use judging::Judging;
 pub use keeping::Keeping;
 pub use making::make;

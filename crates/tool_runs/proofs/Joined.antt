@@ -16,13 +16,13 @@ use Rattle.tool_runs.specs.declared.output.halt.Halt.{Halt}
 use Rattle.tool_runs.specs.declared.output.halt.Halt.TheVariants as halts
 use Rattle.tool_runs.specs.declared.output.stop.Stop.{Stop}
 use Rattle.tool_runs.specs.declared.output.stop.Stop.TheVariants as stops
-use Rattle.tool_runs.specs.output.Outputs.{after_pieces, text_of, Output, Refusal, ◌>>=◌, unless_refused, finished}
+use Rattle.tool_runs.specs.output.Outputs.{after_pieces, text_of, Output, Refusal, ◌>>=◌, unless_refused, ended_as}
 use Rattle.tool_runs.specs.output.Runs.{Writes, Leads, Steps, Comes, ComesTold, at_number, coming, told_refusal}
 use Rattle.tool_runs.proofs.OfOutput.Written.{concat-append, writes_on, stops_here}
 use Rattle.tool_runs.specs.declared.front.front.Front.{Front as Read}
 use Rattle.tool_runs.specs.front.Fronts.{Front, closed}
 use Rattle.tool_runs.specs.front.Reading.{FrontIs, GivesFront}
-use Rattle.tool_runs.specs.Commands.{answer_to, command_output, with_body, with_end}
+use Rattle.tool_runs.specs.Commands.{command_output, with_body, with_end}
 use Rattle.tool_runs.specs.Stopping.{Concludes}
 
 pub halted : (output : Option Output) (halt : Halt) (result : Result Ending Halt) (old mid new : Option (List ℕ)) → Writes output (Err halt) old mid → result ≡ Err halt → new ≡ mid → Writes output result old new
@@ -35,8 +35,9 @@ concluded T style (Some output) rest (stops.Refused r) result old mid new p q = 
 concluded T style output rest (stops.Halted halt) result old mid new p q = halted output halt result old mid new p q.0 q.1
 
 -- all that was to be written was
-pub all_done : (first : Option Output) (last : Output) (old new : Option (List ℕ)) → last ≡ finished → Leads first (Some last) old new → Writes first (Ok Done) old new
-all_done first last old new e p = writes_on first (Some last) (Ok Done) old new new p (subst (λ (o : Output). Writes (Some o) (Ok Done) new new) (sym e) (record { ending = refl; text = Appends-nil new }))
+pub all_done : (first : Option Output) (last : Output) (ending : Ending) (old new : Option (List ℕ)) → last ≡ ended_as ending → Leads first (Some last) old new → Writes first (Ok ending) old new
+all_done first last ending old new e p =
+    writes_on first (Some last) (Ok ending) old new new p (subst (λ (o : Output). Writes (Some o) (Ok ending) new new) (sym e) (record { ending = refl; text = Appends-nil new }))
 
 -- ---- the front
 
@@ -107,22 +108,22 @@ turns_stopped style first rest r stop result old mid new steps is ends =
 -- ---- nothing behind the front
 
 -- the rest of the input is refused
-pub closed_stops : {X : Type 0} (style : Style) (answered : List Item → Result (List (List ℕ)) Refusal) (records : List Item) (view : X → Unit {0}) (body : Option Bundle) (stop : Stop) (result : Result Ending Halt) (old new : Option (List ℕ)) → ComesTold (option_map closed body) view (Err stop) → Concludes style stop result old new
+pub closed_stops : {X : Type 0} (style : Style) (answered : List Item → Result Output Refusal) (records : List Item) (view : X → Unit {0}) (body : Option Bundle) (stop : Stop) (result : Result Ending Halt) (old new : Option (List ℕ)) → ComesTold (option_map closed body) view (Err stop) → Concludes style stop result old new
     → Writes (option_map (λ b. unless_refused style (with_end answered records b)) body) result old new
 closed_stops style answered records view None (stops.Refused r) result old new p q = tt
 closed_stops style answered records view (Some body) (stops.Refused r) result old new p q =
-    let written : Result (Unit {0}) Refusal → Output = λ shut. unless_refused style (shut >>= λ u. answer_to answered records) in
+    let written : Result (Unit {0}) Refusal → Output = λ shut. unless_refused style (shut >>= λ u. answered records) in
     subst (λ (o : Output). Writes (Some o) result old new) (sym (ap written p)) q
 closed_stops style answered records view body (stops.Halted halt) result old new p q =
     let output = option_map (λ (b : Bundle). unless_refused style (with_end answered records b)) body in
     halted output halt result old old new (stops_here output halt old) q.0 q.1
 
 -- it was read to its end
-pub closed_goes : (style : Style) (answered : List Item → Result (List (List ℕ)) Refusal) (records : List Item) (body : Option Bundle) (result : Result Ending Halt) (old new : Option (List ℕ)) → ComesTold {X = Unit {0}} (option_map closed body) (λ u. u) (Ok tt)
-    → Writes (Some (unless_refused style (answer_to answered records))) result old new → Writes (option_map (λ b. unless_refused style (with_end answered records b)) body) result old new
+pub closed_goes : (style : Style) (answered : List Item → Result Output Refusal) (records : List Item) (body : Option Bundle) (result : Result Ending Halt) (old new : Option (List ℕ)) → ComesTold {X = Unit {0}} (option_map closed body) (λ u. u) (Ok tt)
+    → Writes (Some (unless_refused style (answered records))) result old new → Writes (option_map (λ b. unless_refused style (with_end answered records b)) body) result old new
 closed_goes style answered records None result old new p q = tt
 closed_goes style answered records (Some body) result old new p q =
-    let written : Result (Unit {0}) Refusal → Output = λ shut. unless_refused style (shut >>= λ u. answer_to answered records) in
+    let written : Result (Unit {0}) Refusal → Output = λ shut. unless_refused style (shut >>= λ u. answered records) in
     subst (λ (o : Output). Writes (Some o) result old new) (sym (ap written p)) q
 
 -- ---- pieces

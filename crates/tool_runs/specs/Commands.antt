@@ -24,11 +24,12 @@ body_behind prepared front = with_body prepared front.records front.body
 abbrev pub only : List (List ℕ) → Output
 only pieces = record { pieces = pieces; ending = Done }
 
+-- an answer in pieces, with which all is done
 abbrev pub answer_to : (List Item → Result (List (List ℕ)) Refusal) → List Item → Result Output Refusal
 answer_to answered records = answered records >>= λ pieces. Ok (only pieces)
 
-abbrev pub with_end : (List Item → Result (List (List ℕ)) Refusal) → List Item → Bundle → Result Output Refusal
-with_end answered records body = closed body >>= λ u. answer_to answered records
+abbrev pub with_end : (List Item → Result Output Refusal) → List Item → Bundle → Result Output Refusal
+with_end answered records body = closed body >>= λ u. answered records
 
-abbrev pub ends_behind : (List Item → Result (List (List ℕ)) Refusal) → Front → Result Output Refusal
+abbrev pub ends_behind : (List Item → Result Output Refusal) → Front → Result Output Refusal
 ends_behind answered front = with_end answered front.records front.body

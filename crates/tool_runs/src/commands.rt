@@ -7,7 +7,7 @@ ghost use Rattle.xt_io.specs.Bundles.{bundle, nothing};
 ghost use Rattle.tool_runs.specs.output.Outputs.{Output, after_pieces, unless_refused};
 ghost use Rattle.tool_runs.specs.output.Runs.{Halts, HaltsWriting, MayGo, Steps, StopsWriting, Writes, coming, turns_left};
 ghost use Rattle.tool_runs.specs.front.Reading.{AreWithin};
-ghost use Rattle.tool_runs.specs.Commands.{answer_to, body_behind, command_output, ends_behind, with_body, with_end};
+ghost use Rattle.tool_runs.specs.Commands.{body_behind, command_output, ends_behind, with_body, with_end};
 ghost use Rattle.tool_runs.specs.Stopping.{Concludes, StopsSo};
 
 use crate::closing::close_body;
@@ -63,26 +63,25 @@ pub trait Answers {
     ghost use Rattle.std.specs.Prelude.{◌≡◌, ◌≤◌, ℕ, List, Result, Some, length};
     ghost use Rattle.xt_io.specs.declared.Item.{Item};
     ghost use Rattle.tool_runs.specs.declared.output.ending.Style.{Style};
-    ghost use Rattle.tool_runs.specs.output.Outputs.{Refusal, finished, unless_refused};
-    ghost use Rattle.tool_runs.specs.output.Runs.{Steps, StopsWriting};
+    ghost use Rattle.tool_runs.specs.output.Outputs.{Output, Refusal, unless_refused};
+    ghost use Rattle.tool_runs.specs.output.Runs.{Steps, StopsWriting, at_ending};
     ghost use Rattle.tool_runs.specs.front.Reading.{AreWithin};
-    ghost use Rattle.tool_runs.specs.Commands.{answer_to};
 
     /// Whether lines or records are written.
     ghost style: { Style };
 
-    /// The pieces that are written for these records, or why the command is refused.
-    ghost answered: { Self → List Item → Result (List (List ℕ)) Refusal };
+    /// What is written for these records, or why the command is refused.
+    ghost answered: { Self → List Item → Result Output Refusal };
 
     /// Whether lines or records are written.
     fn writes() -> Style
         ensures { result ≡ style };
 
-    /// Writes the answer. A refusal is not written yet.
-    fn answer<K: Sink>(&self, alloc: Global, records: &[Item], sink: &mut K) -> Result<(), Stop>
+    /// Writes the answer, and tells how the command ends. A refusal is not written yet.
+    fn answer<K: Sink>(&self, alloc: Global, records: &[Item], sink: &mut K) -> Result<Ending, Stop>
         requires few { length records.now ≤ 1048576 }
         requires within { AreWithin records.now }
-        ensures steps { Steps style (Some (unless_refused style (answer_to (answered self.now) records.now))) (Some finished) result (K.taken sink.old) (K.taken sink.new) }
+        ensures steps { Steps style (Some (unless_refused style (answered self.now records.now))) (at_ending result) result (K.taken sink.old) (K.taken sink.new) }
         ensures stops { StopsWriting (K.faults sink.old) (K.faults sink.new) result }
         ensures same { K.name sink.new ≡ K.name sink.old };
 }
@@ -328,12 +327,12 @@ fn answer_ended<P: Answers, K: Sink>(
 ) -> Result<Ending, Halt>
     requires few { length records.now ≤ 1048576 }
     requires within { AreWithin records.now }
-    ensures output { Writes (Some (unless_refused P.style (answer_to (P.answered command.now) records.now))) result (K.taken sink.old) (K.taken sink.new) }
+    ensures output { Writes (Some (unless_refused P.style (P.answered command.now records.now))) result (K.taken sink.old) (K.taken sink.new) }
     ensures halts { HaltsWriting (K.faults sink.old) (K.faults sink.new) result }
     ensures same { K.name sink.new ≡ K.name sink.old }
 {
     match command.answer(alloc, records, sink) {
         Err(stop) => stopped(alloc, P::writes(), stop, sink),
-        Ok(()) => Ok(Ending::Done),
+        Ok(ending) => Ok(ending),
     }
 }

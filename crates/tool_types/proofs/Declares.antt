@@ -1,7 +1,8 @@
 -- Records that are declared one after another.
-use Rattle.std.proofs.Common.{◌≡◌, ◌≢◌, ◌≤◌, suc, true, subst, ℕ, ◌+◌, ◌<◌, List, [], ◌∷◌, ◌++◌, map, append_assoc, append-nil, length, drop, get_or, Some, Result, Ok, Err, IfOk, OnOk, refl, sym, ap, ◌∙◌}
+use Rattle.std.proofs.Common.{◌≡◌, ◌≢◌, ◌≤◌, arith, zero, suc, true, subst, ℕ, ◌+◌, ◌<◌, List, [], ◌∷◌, ◌++◌, map, append_assoc, append-nil, length, drop, drop_of_length-le, get_or, Some, Result, Ok, Err, IfOk, OnOk, refl, sym, ap, ◌∙◌}
 use Rattle.std.specs.Prelude.{slice_get}
 use Rattle.std.proofs.lemmas.List.{drop_more}
+use Rattle.std.proofs.Math.Seq.{drop-nil}
 use Rattle.type_trees.specs.declared.types.Named.{Named}
 use Rattle.type_trees.specs.View.{tree}
 use Rattle.xt_lists.specs.declared.memory.OutOfMemory.{OutOfMemory}
@@ -15,6 +16,7 @@ use Rattle.type_object.specs.declared.pool.PoolFault.TheVariants as F
 use Rattle.idl_types.specs.State.{Declared, declared}
 use Rattle.type_resolve.specs.Adding.{all_added, Adds, Halts}
 use Rattle.type_resolve.specs.Objects.{texts}
+use Rattle.type_resolve.specs.declared.sides.Identifiers.{Identifiers}
 use Rattle.tool_runs.specs.declared.output.halt.Halt.TheVariants as halts
 use Rattle.tool_runs.specs.declared.output.stop.Stop.{Stop}
 use Rattle.tool_runs.specs.declared.output.stop.Stop.TheVariants as stops
@@ -24,7 +26,7 @@ use Rattle.tool_types.specs.Types as spec
 use Rattle.tool_types.specs.Types.{idl_fault_text}
 use Rattle.xt_io.specs.declared.Item.{Item}
 use Rattle.tool_types.specs.declared.declaring.Declared.{Declared as Record}
-use Rattle.tool_types.specs.Declaring.{AllGood, AreGood, IsGood, Joins, Leaves, IsRefusal, IdlStops, RefusesTypes, declared_view}
+use Rattle.tool_types.specs.Declaring.{AllGood, AreGood, AreIdentified, Identifies, IsGood, Joins, Leaves, IsRefusal, IdlStops, RefusesTypes, declared_view}
 use Rattle.xt_io.specs.Bundles.{limit_of}
 use Rattle.tool_runs.specs.front.Reading.{AreWithin}
 use Rattle.type_trees.specs.Trees.{Tree}
@@ -44,19 +46,19 @@ types_stop : (k : ℕ) (pool new : Texts) (t : Named) (ts : List Named) (why : p
 unfolding spec.with_objects
 types_stop k pool new t ts why e = ap (λ r. spec.with_all k r >>= λ more. spec.with_objects k more (declared ts)) e
 
-refused_by : (said : Result Texts Refusal) (why : Refusal) (stop : Stop) (now : Texts) → said ≡ Err why → Refuses why stop → Joins said (Err stop) now
-refused_by said why (stops.Refused r) now e p = e ∙ ap (λ (x : Refusal). Err x) (sym p)
-refused_by said why (stops.Halted halt) now e p = p
+refused_by : (X : Type 0) (said : Result Texts Refusal) (why : Refusal) (stop : Stop) (now : Texts) → said ≡ Err why → Refuses why stop → Joins {X = X} said (Err stop) now
+refused_by X said why (stops.Refused r) now e p = e ∙ ap (λ (x : Refusal). Err x) (sym p)
+refused_by X said why (stops.Halted halt) now e p = p
 
-halted_by : (said : Result Texts Refusal) (stop : Stop) (now : Texts) → stop ≡ stops.Halted halts.OutOfMemory → Joins said (Err stop) now
-halted_by said stop now e = rw e refl
+halted_by : (X : Type 0) (said : Result Texts Refusal) (stop : Stop) (now : Texts) → stop ≡ stops.Halted halts.OutOfMemory → Joins {X = X} said (Err stop) now
+halted_by X said stop now e = rw e refl
 
 -- a type whose objects were refused
-pub types_refused : (k : ℕ) (pool new : Texts) (t : Named) (ts : List Named) (fault : PoolFault) (stop : Stop) → Halts fault pool (texts (tree t.ty)) new → IsRefusal k fault stop → Joins (spec.with_objects k pool (declared (t ∷ ts))) (Err stop) new
-types_refused k pool new t ts (F.Object fault) stop stopped is = refused_by _ _ stop new (types_stop k pool new t ts _ stopped.first) is
-types_refused k pool new t ts (F.Clash id) stop stopped is = refused_by _ _ stop new (types_stop k pool new t ts _ stopped.first) is
-types_refused k pool new t ts F.Full stop stopped is = refused_by _ _ stop new (types_stop k pool new t ts _ stopped.first) is
-types_refused k pool new t ts F.OutOfMemory stop stopped is = halted_by _ stop new is
+pub types_refused : (X : Type 0) (k : ℕ) (pool new : Texts) (t : Named) (ts : List Named) (fault : PoolFault) (stop : Stop) → Halts fault pool (texts (tree t.ty)) new → IsRefusal k fault stop → Joins {X = X} (spec.with_objects k pool (declared (t ∷ ts))) (Err stop) new
+types_refused X k pool new t ts (F.Object fault) stop stopped is = refused_by X _ _ stop new (types_stop k pool new t ts _ stopped.first) is
+types_refused X k pool new t ts (F.Clash id) stop stopped is = refused_by X _ _ stop new (types_stop k pool new t ts _ stopped.first) is
+types_refused X k pool new t ts F.Full stop stopped is = refused_by X _ _ stop new (types_stop k pool new t ts _ stopped.first) is
+types_refused X k pool new t ts F.OutOfMemory stop stopped is = halted_by X _ stop new is
 
 pub types_end : (k : ℕ) (pool : Texts) → spec.with_objects k pool (declared []) ≡ Ok pool
 unfolding spec.with_objects
@@ -159,6 +161,27 @@ text_good text ts objects printable e = good_from ts [] (λ at full t is. object
 
 pub good_next : (types : List Named) (i : ℕ) (t : Named) → drop i types ≡ t ∷ drop (i + 1) types → AreGood (drop i types) → (has_objects (tree t.ty) ≡ true) × AreGood (drop (i + 1) types)
 good_next types i t e good = let g = subst AreGood e good in (g.0, g.1.1)
+
+-- one more type has its identifiers
+pub identified_on : (types : List Named) (i : ℕ) (t : Named) (ids after : List Identifiers) (found : Identifiers) → drop i types ≡ t ∷ drop (i + 1) types → ((more : List Identifiers) → AreIdentified (drop i types) more → AreIdentified types (ids ++ more)) → Identifies (tree t.ty) found → after ≡ ids ++ found ∷ []
+    → (more : List Identifiers) → AreIdentified (drop (i + 1) types) more → AreIdentified types (after ++ more)
+identified_on types i t ids after found next before is same more rest =
+    let here = before (found ∷ more) (subst (λ (ts : List Named). AreIdentified ts (found ∷ more)) (sym next) (is, rest)) in
+    subst (AreIdentified types) (sym (append_assoc ids (found ∷ []) more) ∙ ap (λ (l : List Identifiers). l ++ more) (sym same)) here
+
+-- all of them have
+pub identified_all : (types : List Named) (i : ℕ) (ids : List Identifiers) → length types ≤ i → ((more : List Identifiers) → AreIdentified (drop i types) more → AreIdentified types (ids ++ more)) → AreIdentified types ids
+identified_all types i ids over before =
+    let none = subst (λ (ts : List Named). AreIdentified ts []) (sym (drop_of_length-le types over)) tt in
+    subst (AreIdentified types) (append-nil ids) (before [] none)
+
+-- the next type and its identifiers are passed over
+pub identified_next : (i : ℕ) (types : List Named) (ids : List Identifiers) → i < length types → AreIdentified (drop i types) (drop i ids) → AreIdentified (drop (suc i) types) (drop (suc i) ids)
+identified_next i [] ids lt p = absurd (omega arith)
+identified_next zero (t ∷ types) [] lt p = absurd p
+identified_next zero (t ∷ types) (d ∷ ids) lt p = p.1
+identified_next (suc i) (t ∷ types) [] lt p = identified_next i types [] (omega arith) (subst (AreIdentified (drop i types)) (sym (drop-nil i)) p)
+identified_next (suc i) (t ∷ types) (d ∷ ids) lt p = identified_next i types ids (omega arith) p
 
 pub within_next : (items : List Item) (i : ℕ) (t : Item) → drop i items ≡ t ∷ drop (i + 1) items → AreWithin (drop i items) → (length t.payload ≤ limit_of t.kind) × AreWithin (drop (i + 1) items)
 within_next items i t e within = subst AreWithin e within

@@ -1,9 +1,12 @@
 -- What the records of a front declare, as the program holds it (this profile's own).
-use Rattle.std.specs.Prelude.{◌≡◌, ℕ, true, List, [], ◌∷◌, None, Result, Ok, Err}
+use Rattle.std.specs.Prelude.{◌≡◌, ℕ, true, false, List, [], ◌∷◌, None, Result, Ok, Err}
 use Rattle.type_trees.specs.declared.types.Named.{Named}
 use Rattle.type_trees.specs.View.{tree}
+use Rattle.type_trees.specs.Trees.{Tree}
 use Rattle.type_rules.specs.Valid.{type_fault}
-use Rattle.type_resolve.specs.Objects.{has_objects}
+use Rattle.object_formats.specs.Objects as o
+use Rattle.type_resolve.specs.Objects.{has_objects, identifier}
+use Rattle.type_resolve.specs.declared.sides.Identifiers.{Identifiers}
 use Rattle.type_object.specs.Pools as pools
 use Rattle.type_object.specs.Pools.{Texts}
 use Rattle.type_object.specs.declared.pool.PoolFault.{PoolFault}
@@ -22,17 +25,29 @@ use Rattle.tool_types.specs.declared.declaring.Declared.{Declared}
 use Rattle.tool_types.specs.declared.declaring.Declared.TheVariants.{Types, Object}
 
 abbrev pub declared_view : Declared → spec.Declared
-declared_view (Types named) = spec.types (idl_types.declared named)
+declared_view (Types named ids) = spec.types (idl_types.declared named)
 declared_view (Object id name) = spec.object id name
+
+-- the identifiers of a type's minimal and complete objects
+pub record Identifies (t : Tree) (ids : Identifiers) : Type 0 where
+  pub minimal : identifier false t ≡ o.hash ids.minimal
+  pub complete : identifier true t ≡ o.hash ids.complete
+
+-- one after another, of as many types
+abbrev pub AreIdentified : List Named → List Identifiers → Type 0
+AreIdentified [] [] = Unit {0}
+AreIdentified [] (ids ∷ more) = ⊥
+AreIdentified (t ∷ ts) [] = ⊥
+AreIdentified (t ∷ ts) (ids ∷ more) = Identifies (tree t.ty) ids × AreIdentified ts more
 
 -- each type has objects of its own, and is valid
 abbrev pub AreGood : List Named → Type 0
 AreGood [] = Unit {0}
 AreGood (t ∷ ts) = (has_objects (tree t.ty) ≡ true) × ((type_fault (tree t.ty) ≡ None) × AreGood ts)
 
--- each type of what a record declares is valid
+-- each type of what a record declares is valid, and its identifiers stand beside it
 abbrev pub IsGood : Declared → Type 0
-IsGood (Types named) = AreGood named
+IsGood (Types named ids) = AreGood named × AreIdentified named ids
 IsGood (Object id name) = Unit {0}
 
 abbrev pub AllGood : List Declared → Type 0
@@ -60,8 +75,8 @@ IsRefusal k F.Full stop = Refuses (spec.pool_refusal k pools.full) stop
 IsRefusal k F.OutOfMemory stop = stop ≡ stops.Halted halts.OutOfMemory
 
 -- the pool that is answered
-abbrev pub Joins : Result Texts Refusal → Result (Unit {0}) Stop → Texts → Type 0
-Joins said (Ok u) pool = said ≡ Ok pool
+abbrev pub Joins : {X : Type 0} → Result Texts Refusal → Result X Stop → Texts → Type 0
+Joins said (Ok x) pool = said ≡ Ok pool
 Joins said (Err (stops.Refused r)) pool = said ≡ Err (refusal r)
 Joins said (Err (stops.Halted halt)) pool = halt ≡ halts.OutOfMemory
 

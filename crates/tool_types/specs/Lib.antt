@@ -1,3 +1,4 @@
 pub mod names
 pub mod Types
 pub mod Declaring
+pub mod Coming

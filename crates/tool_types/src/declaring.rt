@@ -7,8 +7,10 @@ ghost use Rattle.tool_runs.specs.output.Runs.{Comes};
 ghost use Rattle.xt_io.specs.Bundles.{limit_of};
 ghost use Rattle.tool_runs.specs.front.Reading.{AreWithin};
 ghost use Rattle.tool_types.specs.Types as spec;
-ghost use Rattle.tool_types.specs.Declaring.{AllGood, AreGood, IsGood, declared_view, Leaves, Joins};
+ghost use Rattle.tool_types.specs.Declaring.{AllGood, AreGood, AreIdentified, IsGood, declared_view, Leaves, Joins};
+ghost use Rattle.tool_types.specs.Coming.{AllComeBack};
 
+use crate::laws::declared_comes_back;
 use crate::refusals::{refuse_idl, refuse_pool};
 use idl_laws::parsed::parsed_is_printable;
 use object_formats::TypeObject;
@@ -16,31 +18,44 @@ use resolve_laws::parsed::parsed_has_objects;
 use std::alloc::Global;
 use tool_runs::output::{Halt, Stop};
 use type_object::Pool;
-use type_resolve::objects_of;
+use type_resolve::{Identifiers, objects_of};
 use type_trees::{HashId, Named};
 use xt_idl::parse;
 use xt_io::{Item, Kind};
 use xt_lists::{OutOfMemory, Row, Text};
 
-/// What a record of a front declares: the types of a text, or an object's identifier and its type's name.
+/// What a record of a front declares: the types of a text with their identifiers, or an object's identifier and its type's name.
 #[derive(Debug, Drop)]
 pub enum Declared {
-    Types(Row<Named>),
-    Object { id: HashId, name: Option<Text> },
+    Types {
+        types: Row<Named>,
+        ids: Row<Identifiers>,
+    },
+    Object {
+        id: HashId,
+        name: Option<Text>,
+    },
 }
 
-// Adds the objects of types, one type after another.
-fn with_objects(alloc: Global, number: u32, types: &[Named], pool: &mut Pool) -> Result<(), Stop>
+// Adds the objects of types, one type after another, and gives the identifiers.
+fn with_objects(
+    alloc: Global,
+    number: u32,
+    types: &[Named],
+    pool: &mut Pool,
+) -> Result<Row<Identifiers>, Stop>
     requires { AreGood types.now }
-    ensures { Joins (spec.with_objects number pool.old (idl_types.declared types.now)) result pool.new }
+    ensures joins { Joins (spec.with_objects number pool.old (idl_types.declared types.now)) result pool.new }
+    ensures identified { IfOk result (AreIdentified types.now) }
 {
+    let mut ids = Row::new(alloc);
     for named in types {
         match objects_of(alloc, named, pool) {
-            Ok(_) => {}
+            Ok(found) => ids.push(found)?,
             Err(fault) => return Err(refuse_pool(alloc, number, fault)),
         }
     }
-    Ok(())
+    Ok(ids)
 }
 
 fn declare_text(alloc: Global, number: u32, text: &[u8], pool: &mut Pool) -> Result<Declared, Stop>
@@ -55,7 +70,7 @@ fn declare_text(alloc: Global, number: u32, text: &[u8], pool: &mut Pool) -> Res
         Err(fault) => return Err(refuse_idl(alloc, number, fault)),
     };
     match with_objects(alloc, number, types.as_slice(), pool) {
-        Ok(()) => Ok(Declared::Types(types)),
+        Ok(ids) => Ok(Declared::Types { types, ids }),
         Err(stop) => Err(stop),
     }
 }
@@ -133,7 +148,9 @@ pub fn declare(alloc: Global, items: &[Item]) -> Result<(Row<Declared>, Pool), S
     requires within { AreWithin items.now }
     ensures good { IfOk result (λ d. AllGood d.0) }
     ensures declared { Comes (spec.declare 0 [] items.now) (λ d. (map declared_view d.0, d.1)) result }
+    ensures back { IfOk result (λ d. AllComeBack d.1 (map declared_view d.0)) }
 {
+    declared_comes_back();
     let mut records = Row::new(alloc);
     let mut pool = Pool::new(alloc);
     let mut number: u32 = 0;

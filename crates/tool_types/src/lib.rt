@@ -2,8 +2,10 @@
 #![tactic(auto)]
 
 mod declaring;
+mod laws;
 pub mod names;
 mod refusals;
 
 pub use declaring::{Declared, declare};
+pub use laws::declared_comes_back;
 pub use refusals::{refuse_pool, refuse_types};

@@ -21,7 +21,7 @@ use Rattle.object_walks.specs.Resolving.{resolved}
 use Rattle.tool_runs.specs.output.Outputs.{Refusal, ◌>>=◌}
 use Rattle.tool_types.specs.Types.{Declared, types, object, Declaration, text_parsed, object_added, declared_as, declared_by, declare, name_in, with_objects}
 use Rattle.tool_words.specs.Words.{Form, plain, within, by_id, Reference}
-use Rattle.tool_types.specs.names.Names.{Meaning, typed, identified, typed_as, has_name, in_record, or_else, in_records, in_record_at, meant, or_refused, type_meant, type_named, both_named, both_topped, pair_named}
+use Rattle.tool_types.specs.names.Names.{Meaning, typed, identified, type_by_name, has_name, in_record, or_else, in_records, in_record_at, meant, or_refused, type_meant, type_named, both_named, both_topped, pair_named}
 use Rattle.tool_types.proofs.OfNames.Soundness.{resolved_valid}
 use Rattle.tool_verdicts.specs.Verdicts.{NamedAreValid}
 
@@ -98,12 +98,24 @@ chosen : (b : Bool) (x y : Option Meaning) → IsValidMeaning x → IsValidMeani
 chosen true x y p q = p
 chosen false x y p q = q
 
-typed_valid : (name : List ℕ) (ts : idl_types.Declared) → AreValid ts → IsValidMeaning (typed_as name ts)
-typed_valid name [] all = tt
-typed_valid name (t ∷ ts) all = chosen (bytes_eq t.0 name) (Some (typed t.1)) (typed_as name ts) all.0 (typed_valid name ts all.1)
+abbrev IsValidIn : Option Tree → Type 0
+IsValidIn None = Unit {0}
+IsValidIn (Some t) = type_fault t ≡ None
+
+chosen_in : (b : Bool) (x y : Option Tree) → IsValidIn x → IsValidIn y → IsValidIn (if b then x else y)
+chosen_in true x y p q = p
+chosen_in false x y p q = q
+
+by_name_valid : (name : List ℕ) (ts : idl_types.Declared) → AreValid ts → IsValidIn (type_by_name name ts)
+by_name_valid name [] all = tt
+by_name_valid name (t ∷ ts) all = chosen_in (bytes_eq t.0 name) (Some t.1) (type_by_name name ts) all.0 (by_name_valid name ts all.1)
+
+typed_valid : (x : Option Tree) → IsValidIn x → IsValidMeaning (option_map typed x)
+typed_valid None p = tt
+typed_valid (Some t) p = p
 
 in_record_valid : (name : List ℕ) (d : Declared) → IsValidRecord d → IsValidMeaning (in_record name d)
-in_record_valid name (types ts) p = typed_valid name ts p
+in_record_valid name (types ts) p = typed_valid (type_by_name name ts) (by_name_valid name ts p)
 in_record_valid name (object id other) p = chosen (has_name name other) (Some (identified id)) None tt tt
 
 either_valid : (x y : Option Meaning) → IsValidMeaning x → IsValidMeaning y → IsValidMeaning (or_else x y)

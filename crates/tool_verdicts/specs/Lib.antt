@@ -1,1 +1,4 @@
 pub mod Verdicts
+pub mod Versions
+pub mod Reports
+pub mod Worked

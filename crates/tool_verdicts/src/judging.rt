@@ -1,96 +1,76 @@
-ghost use Rattle.std.specs.Prelude.{◌≡◌, ◌<◌, Some, Ok, IfOk, IfSome, IsOk, map};
+ghost use Rattle.std.specs.Prelude.{◌≡◌, ◌<◌, Ok, IfOk, IsOk};
 ghost use Rattle.type_trees.specs.View.{tree};
 ghost use Rattle.type_trees.specs.Bridge.{type_shape};
 ghost use Rattle.assignability.specs.Views.{verdict_view};
-ghost use Rattle.projection_laws.specs.Premises.{IsValid};
 ghost use Rattle.xcdr_model.specs.Failure.{first_failure};
 ghost use Rattle.object_walks.specs.Resolving.{resolved};
 ghost use Rattle.pair_judge.specs.Judged.{IsVerdict};
-ghost use Rattle.tool_words.specs.View.{form_view, reference_view};
-ghost use Rattle.tool_types.specs.Declaring.{AllGood, declared_view};
-ghost use Rattle.tool_types.specs.names.Names as names;
 
-use assignability::{Verdict, judge_under};
+use assignability::Verdict;
 use pair_judge::{Steps, judge_pairs_under};
 use std::alloc::Global;
 use std::marker::Brand;
 use std::sync::ledger::{Blank, Ledger};
-use tool_types::Declared;
-use tool_types::names::{Meaning, meant};
-use tool_words::{Pair, Reference};
 use type_object::Pool;
-use type_rules::is_within_limits;
 use type_trees::{HashId, XType};
+use xcdr_model::Policy;
 use xt_lists::OutOfMemory;
+use xt_shapes::Rep;
 
-// The identifier that a word means, where it means no type that a text declares.
-fn id_named(reference: &Reference<'_>, records: &[Declared], pool: &Pool) -> Option<HashId>
-    requires { AllGood records.now }
-    ensures { IfSome result (λ id. names.meant (form_view reference.now.form) (map declared_view records.now, pool.now) ≡ Some (names.identified id)) }
-{
-    match meant(&reference.form, records, pool) {
-        Some(Meaning::Identified(id)) => Some(id),
-        Some(Meaning::Typed(_)) | None => None,
-    }
+/// Under which representation and policy types are judged.
+#[derive(Clone, Copy)]
+pub struct Terms {
+    pub rep: Rep,
+    pub policy: Policy,
 }
 
-// The two identifiers, where both words mean one.
-fn ids_named(pair: &Pair<'_>, records: &[Declared], pool: &Pool) -> Option<(HashId, HashId)>
-    requires { AllGood records.now }
-    ensures reader { IfSome result (λ ids. names.meant (form_view pair.now.reader.form) (map declared_view records.now, pool.now) ≡ Some (names.identified ids.0)) }
-    ensures writer { IfSome result (λ ids. names.meant (form_view pair.now.writer.form) (map declared_view records.now, pool.now) ≡ Some (names.identified ids.1)) }
-{
-    let reader = id_named(&pair.reader, records, pool)?;
-    let writer = id_named(&pair.writer, records, pool)?;
-    Some((reader, writer))
+/// A reader's or a writer's type, and the identifier that resolves to it.
+#[derive(Clone, Copy)]
+pub struct Side<'a> {
+    pub id: HashId,
+    pub ty: &'a XType,
 }
 
 // The verdict on what two identifiers resolve to, by their objects.
 fn by_objects<L: Ledger>(
     alloc: Global,
-    pair: &Pair<'_>,
+    terms: &Terms,
     pool: &Pool,
-    ids: (HashId, HashId),
+    reader: &HashId,
+    writer: &HashId,
     blank: Blank,
 ) -> Result<Verdict, OutOfMemory>
     requires name { blank.name ≡ L.name }
     requires parts { blank.parts ≡ L.parts }
     requires some { 0 < L.parts }
-    requires reader { IsOk (resolved pool.now ids.0) }
-    requires writer { IsOk (resolved pool.now ids.1) }
-    ensures { IfOk result (λ v. IsVerdict pair.now.policy pair.now.rep (resolved pool.now ids.0) (resolved pool.now ids.1) (verdict_view v)) }
+    requires reader { IsOk (resolved pool.now reader.now) }
+    requires writer { IsOk (resolved pool.now writer.now) }
+    ensures { IfOk result (λ v. IsVerdict terms.now.policy terms.now.rep (resolved pool.now reader.now) (resolved pool.now writer.now) (verdict_view v)) }
 {
     let mut steps = Steps::<L>::new(blank);
     judge_pairs_under(
         alloc,
-        &pair.policy,
-        pair.rep,
+        &terms.policy,
+        terms.rep,
         pool,
-        &ids.0,
-        &ids.1,
+        reader,
+        writer,
         &mut steps,
     )
 }
 
-/// Whether the reader's type of a pair that words name is assignable from the writer's. Two identifiers are judged by their objects, so that a type that
-/// stands at many places is looked at once; else the types themselves are.
-pub(crate) fn verdict_on(
+/// Whether a reader's type is assignable from a writer's. They are judged by their objects in the pool, so that a type that stands at many places is
+/// looked at once.
+pub fn verdict_on(
     alloc: Global,
-    pair: &Pair<'_>,
-    records: &[Declared],
+    terms: &Terms,
     pool: &Pool,
-    types: &(XType, XType),
+    reader: &Side<'_>,
+    writer: &Side<'_>,
 ) -> Result<Verdict, OutOfMemory>
-    requires good { AllGood records.now }
-    requires valid { IsValid types.now.0 }
-    requires named { names.pair_named (reference_view pair.now.reader) (reference_view pair.now.writer) (map declared_view records.now, pool.now) ≡ Ok (tree types.now.0, tree types.now.1) }
-    ensures { IfOk result (λ v. verdict_view v ≡ first_failure pair.now.policy pair.now.rep (type_shape types.now.0) (type_shape types.now.1)) }
+    requires reader { resolved pool.now reader.now.id ≡ Ok (tree reader.now.ty.now) }
+    requires writer { resolved pool.now writer.now.id ≡ Ok (tree writer.now.ty.now) }
+    ensures { IfOk result (λ v. verdict_view v ≡ first_failure terms.now.policy terms.now.rep (type_shape reader.now.ty.now) (type_shape writer.now.ty.now)) }
 {
-    match ids_named(pair, records, pool) {
-        Some(ids) => by_objects::<Brand>(alloc, pair, pool, ids, Blank::new(1)),
-        None => {
-            is_within_limits();
-            Ok(judge_under(&pair.policy, pair.rep, &types.0, &types.1))
-        }
-    }
+    by_objects::<Brand>(alloc, terms, pool, &reader.id, &writer.id, Blank::new(1))
 }

@@ -4,6 +4,8 @@
 mod judging;
 mod laws;
 mod verdicts;
+pub mod versions;
 
+pub use judging::{Side, Terms, verdict_on};
 pub use laws::named_are_valid;
-pub use verdicts::{id_and_pool, reader_type, top_and_pool, top_type};
+pub use verdicts::{assignable, id_and_pool, reader_type, top_and_pool, top_type};

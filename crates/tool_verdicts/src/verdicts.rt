@@ -9,21 +9,33 @@ ghost use Rattle.tool_words.specs.View.{pair_view, reference_view};
 ghost use Rattle.tool_types.specs.names.Identified.{Resolves};
 ghost use Rattle.type_trees.specs.samples.Tops.{is_top};
 ghost use Rattle.tool_types.specs.Declaring.{AllGood, declared_view};
-ghost use Rattle.tool_types.specs.names.Names as names;
+ghost use Rattle.tool_types.specs.Coming.{AllComeBack};
+ghost use Rattle.tool_types.specs.names.Meanings.{IsFound};
 ghost use Rattle.tool_verdicts.specs.Verdicts as spec;
 
-use crate::judging::verdict_on;
+use crate::judging::{Side, Terms, verdict_on};
 use assignability::Verdict;
 use std::alloc::Global;
 use tool_runs::output::{Cause, Halt, Refused, Stop};
 use tool_samples::lines::no_text;
-use tool_types::names::{id_named, pair_named, top_named};
+use tool_types::names::{NamedType, id_named, pair_named, top_named};
 use tool_types::{Declared, declare};
 use tool_words::{Pair, Reference};
 use type_object::Pool;
 use type_trees::{HashId, Path, XType};
 use xcdr_model::Rule;
 use xt_io::Item;
+
+// A type that a word names, as one side of a verdict.
+fn side_of(found: &NamedType) -> Side<'_>
+    ensures id { result.id ≡ found.now.id }
+    ensures ty { result.ty.now ≡ found.now.ty }
+{
+    Side {
+        id: found.id,
+        ty: &found.ty,
+    }
+}
 
 fn refuse_rule(alloc: Global, rule: Rule, path: &Path) -> Stop
     ensures { Refuses (lines.no_refusal rule path.now) result }
@@ -40,37 +52,40 @@ fn refuse_rule(alloc: Global, rule: Rule, path: &Path) -> Stop
 fn judged(
     alloc: Global,
     pair: &Pair<'_>,
-    records: &[Declared],
     pool: &Pool,
-    types: &(XType, XType),
+    types: &(NamedType, NamedType),
 ) -> Result<(), Stop>
-    requires good { AllGood records.now }
-    requires valid { IsValid types.now.0 }
-    requires named { names.pair_named (reference_view pair.now.reader) (reference_view pair.now.writer) (map declared_view records.now, pool.now) ≡ Ok (tree types.now.0, tree types.now.1) }
-    ensures { Comes (lines.judged pair.now.policy pair.now.rep (tree types.now.0) (tree types.now.1)) (λ u. u) result }
+    requires { IsFound pool.now types.now.0 × IsFound pool.now types.now.1 }
+    ensures { Comes (lines.judged pair.now.policy pair.now.rep (tree types.now.0.ty) (tree types.now.1.ty)) (λ u. u) result }
 {
-    match verdict_on(alloc, pair, records, pool, types) {
+    let terms = Terms {
+        rep: pair.rep,
+        policy: pair.policy,
+    };
+    match verdict_on(alloc, &terms, pool, &side_of(&types.0), &side_of(&types.1)) {
         Ok(Verdict::Yes) => Ok(()),
         Ok(Verdict::No { rule, path }) => Err(refuse_rule(alloc, rule, &path)),
         Err(_) => Err(Stop::Halted(Halt::OutOfMemory)),
     }
 }
 
-fn assignable(
+/// The reader's type of a pair that words name, where it is assignable from the writer's. It reads and writes nothing.
+pub fn assignable(
     alloc: Global,
     pair: &Pair<'_>,
     records: &[Declared],
     pool: &Pool,
 ) -> Result<XType, Stop>
-    requires { AllGood records.now }
+    requires good { AllGood records.now }
+    requires back { AllComeBack pool.now (map declared_view records.now) }
     ensures comes { Comes (spec.assignable (pair_view pair.now) (map declared_view records.now, pool.now)) tree result }
     ensures valid { IfOk result IsValid }
 {
     match pair_named(alloc, &pair.reader, &pair.writer, records, pool) {
         Err(stop) => Err(stop),
-        Ok(types) => match judged(alloc, pair, records, pool, &types) {
+        Ok(types) => match judged(alloc, pair, pool, &types) {
             Err(stop) => Err(stop),
-            Ok(()) => Ok(types.0),
+            Ok(()) => Ok(types.0.ty),
         },
     }
 }
@@ -98,7 +113,10 @@ pub fn top_type(alloc: Global, reference: &Reference<'_>, records: &[Item]) -> R
 {
     match declare(alloc, records) {
         Err(stop) => Err(stop),
-        Ok((declared, pool)) => top_named(alloc, reference, declared.as_slice(), &pool),
+        Ok((declared, pool)) => match top_named(alloc, reference, declared.as_slice(), &pool) {
+            Err(stop) => Err(stop),
+            Ok(found) => Ok(found.ty),
+        },
     }
 }
 
@@ -119,7 +137,7 @@ pub fn top_and_pool(
         Err(stop) => Err(stop),
         Ok((declared, pool)) => match top_named(alloc, reference, declared.as_slice(), &pool) {
             Err(stop) => Err(stop),
-            Ok(ty) => Ok((ty, pool)),
+            Ok(found) => Ok((found.ty, pool)),
         },
     }
 }

@@ -33,6 +33,7 @@ command_view (command.Instances pair depth) = spec.instances (pair_view pair) de
 command_view (command.Record ty rep) = spec.keep (reference_view ty) rep
 command_view (command.Replay ty) = spec.replay (reference_view ty)
 command_view (command.Make seed count) = spec.make seed count
+command_view (command.Compare rep policy) = spec.compare rep policy
 
 abbrev pub net_view : NetCommand → spec.NetCommand
 net_view (peers.Serve to service) = spec.serve to.now service.workers service.turns

@@ -133,6 +133,7 @@ pub data Command : Type 0 where
   keep : Reference → Rep → Command
   replay : Reference → Command
   make : ℕ → ℕ → Command
+  compare : Rep → Policy → Command
 
 -- a part of a command's words, and what it makes of the rest
 abbrev pub with : {A B : Type 0} → Option A → (A → Option B) → Option B
@@ -183,6 +184,11 @@ unfoldable pub make_words : List (List ℕ) → Option Command
 make_words (seed ∷ count ∷ []) = with (long_number seed) (λ s. option_map (make s) (number_below 100001 count))
 make_words words = None
 
+-- under which representation and policy versions are compared
+unfoldable pub compare_words : List (List ℕ) → Option Command
+compare_words (rep ∷ rest) = with (rep_of rep) (λ p. option_map (compare p) (policy_of rest))
+compare_words words = None
+
 abbrev pub alone : Command → List (List ℕ) → Option Command
 alone command words = if length words == 0 then Some command else None
 
@@ -199,6 +205,7 @@ command_by name words =
     else if bytes_eq name (codes "record") then record_words words
     else if bytes_eq name (codes "replay") then replay_words words
     else if bytes_eq name (codes "make") then make_words words
+    else if bytes_eq name (codes "compare") then compare_words words
     else None
 
 -- what the words ask

@@ -4,11 +4,11 @@ use Rattle.hex.specs.Hex.{decode_pairs}
 use Rattle.xt_shapes.specs.declared.leaves.Rep.TheVariants.{Xcdr1, Xcdr2}
 use Rattle.xt_io.specs.declared.Kind.TheVariants.{Json}
 use Rattle.xcdr_model.specs.Policies.{standard}
-use Rattle.tool_words.specs.Words.{Form, plain, within, Reference, Command, judge, read, convert, show, wrap, form_of, in_record_form, told, settings, policy_behind, policy_word, policy_of, pair_words, convert_words, write_words, wrap_words, instances, instances_words, record_words, replay_words, make, make_words, serve, fetch, mirror, serve_words, fetch_words, mirror_words, net_command_by, net_command_of, command_by, command_of}
+use Rattle.tool_words.specs.Words.{Form, plain, within, Reference, Command, judge, read, convert, show, wrap, form_of, in_record_form, told, settings, policy_behind, policy_word, policy_of, pair_words, convert_words, write_words, wrap_words, instances, instances_words, record_words, replay_words, make, make_words, compare, compare_words, serve, fetch, mirror, serve_words, fetch_words, mirror_words, net_command_by, net_command_of, command_by, command_of}
 
 -- all that words unfold
 unfoldable words_read : ℕ
-unfolding in_record_form form_of told settings policy_behind policy_word policy_of pair_words convert_words write_words wrap_words instances_words record_words replay_words make_words serve_words fetch_words mirror_words net_command_by net_command_of command_by command_of decode_pairs
+unfolding in_record_form form_of told settings policy_behind policy_word policy_of pair_words convert_words write_words wrap_words instances_words record_words replay_words make_words compare_words serve_words fetch_words mirror_words net_command_by net_command_of command_by command_of decode_pairs
 words_read = 0
 
 -- ---- types
@@ -79,6 +79,18 @@ greatest_seed = refl
 pub seed_too_large : command_of (codes "make" ∷ codes "18446744073709551616" ∷ codes "0" ∷ []) ≡ None
 unfolding words_read
 seed_too_large = refl
+
+pub compares : command_of (codes "compare" ∷ codes "xcdr1" ∷ codes "disallow" ∷ []) ≡ Some (compare Xcdr1 (record { coercion = false; ignore_string_bounds = true; ignore_sequence_bounds = true; ignore_member_names = false }))
+unfolding words_read
+compares = refl
+
+pub compares_so : command_of (codes "compare" ∷ codes "xcdr2" ∷ []) ≡ Some (compare Xcdr2 standard)
+unfolding words_read
+compares_so = refl
+
+pub compares_no_types : command_of (codes "compare" ∷ codes "A" ∷ codes "A" ∷ codes "xcdr2" ∷ []) ≡ None
+unfolding words_read
+compares_no_types = refl
 
 -- ---- commands over a net
 

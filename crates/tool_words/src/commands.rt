@@ -46,6 +46,8 @@ pub enum Command<'a> {
     Replay(Reference<'a>),
     /// So many pairs of types from a seed.
     Make(u64, u32),
+    /// What each version of the types changes for readers and writers of the one before.
+    Compare(Rep, Policy),
 }
 
 fn rep_of(word: &[u8]) -> Option<Rep>
@@ -206,6 +208,20 @@ fn make_words(words: &[Word]) -> Option<Command<'_>>
     }
 }
 
+#[tactic(auto, unfolding(crate::specs::Words::compare_words))]
+fn compare_words(words: &[Word]) -> Option<Command<'_>>
+    ensures { option_map command_view result ≡ spec.compare_words words.now }
+{
+    match words {
+        [rep, rest @ ..] => {
+            let rep = rep_of(rep.octets())?;
+            let policy = policy_of(rest)?;
+            Some(Command::Compare(rep, policy))
+        }
+        _ => None,
+    }
+}
+
 fn alone<'a>(command: Command<'a>, words: &[Word]) -> Option<Command<'a>>
     ensures { option_map command_view result ≡ spec.alone (command_view command.entry) words.now }
 {
@@ -256,6 +272,8 @@ fn command_by<'a>(name: &[u8], words: &'a [Word]) -> Option<Command<'a>>
         replay_words(words)
     } else if name == b"make".as_slice() {
         make_words(words)
+    } else if name == b"compare".as_slice() {
+        compare_words(words)
     } else {
         None
     }

@@ -5,9 +5,10 @@ use Rattle.tool_runs.specs.declared.output.ending.Cause.TheVariants.{Words as Ba
 use Rattle.tool_runs.specs.declared.output.ending.Style.{Style}
 use Rattle.tool_runs.specs.declared.output.ending.Style.TheVariants.{Lines, Records}
 use Rattle.tool_runs.specs.output.Outputs.{Output, refused}
-use Rattle.tool_runs.specs.Commands.{command_output, body_behind, ends_behind}
-use Rattle.tool_words.specs.Words.{Command, compile, judge, read, write, convert, show, wrap, instances, keep, replay, make, command_of}
+use Rattle.tool_runs.specs.Commands.{answer_to, command_output, body_behind, ends_behind}
+use Rattle.tool_words.specs.Words.{Command, compile, judge, read, write, convert, show, wrap, instances, keep, replay, make, compare, command_of}
 use Rattle.tool_commands.specs.Commands.{judge_lines, read_lines, convert_records, write_records, instances_lines, record_records, replay_lines}
+use Rattle.tool_verdicts.specs.Versions.{compare_output}
 use Rattle.tool_commands.specs.Making.{made}
 use Rattle.tool_commands.specs.Wrapping.{wrapped}
 use Rattle.tool_commands.specs.listing.Listing.{compile_records, show_lines}
@@ -20,17 +21,18 @@ bad_words = refused Lines (record { text = codes "words"; cause = BadWords })
 -- ---- commands
 
 abbrev pub of_command : Command → List ℕ → Output
-of_command compile octets = command_output Records (ends_behind compile_records) (bundle octets)
-of_command (judge pair) octets = command_output Lines (ends_behind (judge_lines pair)) (bundle octets)
+of_command compile octets = command_output Records (ends_behind (answer_to compile_records)) (bundle octets)
+of_command (judge pair) octets = command_output Lines (ends_behind (answer_to (judge_lines pair))) (bundle octets)
 of_command (read pair) octets = command_output Lines (body_behind (read_lines pair)) (bundle octets)
 of_command (write r rep) octets = command_output Records (body_behind (write_records r rep)) (bundle octets)
 of_command (convert pair to) octets = command_output Records (body_behind (convert_records pair to)) (bundle octets)
-of_command show octets = command_output Lines (ends_behind show_lines) (bundle octets)
+of_command show octets = command_output Lines (ends_behind (answer_to show_lines)) (bundle octets)
 of_command (wrap kind) octets = wrapped kind octets
 of_command (instances pair depth) octets = command_output Lines (body_behind (instances_lines pair depth)) (bundle octets)
 of_command (keep r rep) octets = command_output Records (body_behind (record_records r rep)) (bundle octets)
 of_command (replay r) octets = command_output Lines (body_behind (replay_lines r)) (bundle octets)
 of_command (make seed count) octets = made seed count
+of_command (compare rep policy) octets = command_output Lines (ends_behind (compare_output policy rep)) (bundle octets)
 
 abbrev pub asked : Option Command → List ℕ → Output
 asked None octets = bad_words
@@ -54,6 +56,7 @@ TakesInput (wrap kind) = Unit {0}
 TakesInput (instances pair depth) = Unit {0}
 TakesInput (keep r rep) = Unit {0}
 TakesInput (replay r) = Unit {0}
+TakesInput (compare rep policy) = Unit {0}
 
 -- ---- the last line where the source fails: a line, or a Note where records are written
 
@@ -69,6 +72,7 @@ style_of_command (instances pair depth) = Lines
 style_of_command (keep r rep) = Records
 style_of_command (replay r) = Lines
 style_of_command (make seed count) = Lines
+style_of_command (compare rep policy) = Lines
 
 abbrev pub style_asked : Option Command → Style
 style_asked None = Lines

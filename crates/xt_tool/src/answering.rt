@@ -30,7 +30,8 @@ fn style_asked(command: &Option<Command<'_>>) -> Style
             | Command::Wrap(_)
             | Command::Instances(..)
             | Command::Replay(_)
-            | Command::Make(..),
+            | Command::Make(..)
+            | Command::Compare(..),
         )
         | None => Style::Lines,
     }

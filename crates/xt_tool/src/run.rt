@@ -8,10 +8,11 @@ ghost use Rattle.xt_tool.specs.Output.{asked, bad_words, of_command, TakesInput}
 use std::alloc::Global;
 use tool_commands::listing::{Compiling, Showing};
 use tool_commands::{
-    Converting, Judging, Keeping, Reading, Recording, Replaying, Writing, make, wrap,
+    Comparing, Converting, Judging, Keeping, Reading, Recording, Replaying, Writing, make, wrap,
 };
 use tool_runs::output::{Cause, Ending, Halt, Refused, Style, last};
 use tool_runs::{answer_command, body_command};
+use tool_verdicts::Terms;
 use tool_words::Command;
 use xt_io::{Sink, Source};
 use xt_lists::Text;
@@ -62,6 +63,10 @@ fn run_command<S: Source, K: Sink>(
             body_command(alloc, &Replaying { reference }, input, output)
         }
         Command::Make(seed, count) => make(alloc, seed, count, output),
+        Command::Compare(rep, policy) => {
+            let terms = Terms { rep, policy };
+            answer_command(alloc, &Comparing { terms }, input, output)
+        }
     }
 }
 

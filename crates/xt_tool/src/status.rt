@@ -8,7 +8,7 @@ use tool_runs::output::{Cause, Ending};
 pub enum Status {
     /// All was done.
     Done,
-    /// The reader's type is not assignable from the writer's; the last line names the rule.
+    /// The reader's type is not assignable from the writer's; the last line names the rule. Or a version of types breaks something, as a line says.
     No,
     /// The words are no command.
     Words,

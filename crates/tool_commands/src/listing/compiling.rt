@@ -10,7 +10,7 @@ ghost use Rattle.tool_types.specs.Declaring.{AllGood, AreGood, IsGood, declared_
 ghost use Rattle.tool_commands.specs.listing.Listing as spec;
 
 use std::alloc::Global;
-use tool_runs::output::{Halt, Stop, Style, record};
+use tool_runs::output::{Ending, Halt, Stop, Style, record};
 use tool_runs::{Answers, say_pieces};
 use tool_types::{Declared, declare};
 use type_object::Pool;
@@ -43,7 +43,7 @@ fn add_record(alloc: Global, declared: &Declared, pool: &mut Pool) -> Result<(),
     ensures { OnOk result (all_added pool.old (spec.texts_in (declared_view declared.now)) ≡ (pool.new, None)) }
 {
     match declared {
-        Declared::Types(types) => add_types(alloc, types.as_slice(), pool),
+        Declared::Types { types, .. } => add_types(alloc, types.as_slice(), pool),
         Declared::Object { .. } => Ok(()),
     }
 }
@@ -106,16 +106,24 @@ impl Answers for Compiling {
 
     ghost style = { styles.Records };
 
-    ghost answered = { λ s records. compile_records records };
+    ghost answered = { λ s records. answer_to compile_records records };
 
     fn writes() -> Style {
         Style::Records
     }
 
-    fn answer<K: Sink>(&self, alloc: Global, records: &[Item], sink: &mut K) -> Result<(), Stop> {
+    fn answer<K: Sink>(
+        &self,
+        alloc: Global,
+        records: &[Item],
+        sink: &mut K,
+    ) -> Result<Ending, Stop> {
         match declare(alloc, records) {
             Err(stop) => Err(stop),
-            Ok((declared, _)) => compile_all(alloc, declared.as_slice(), sink),
+            Ok((declared, _)) => match compile_all(alloc, declared.as_slice(), sink) {
+                Err(stop) => Err(stop),
+                Ok(()) => Ok(Ending::Done),
+            },
         }
     }
 }

@@ -1,22 +1,20 @@
-ghost use Rattle.std.specs.Prelude.{◌≡◌, ◌≤◌, ◌++◌, true, Some, IfOk, OnOk, length, map};
+ghost use Rattle.std.specs.Prelude.{◌≡◌, ◌≤◌, ◌++◌, Some, IfOk, OnOk, length, map};
 ghost use Rattle.std.specs.List.{concat};
 ghost use Rattle.type_trees.specs.View.{tree};
-ghost use Rattle.type_resolve.specs.Objects as objects;
 ghost use Rattle.idl_types.specs.State as idl_types;
 ghost use Rattle.idl_printer.specs.Lines.{printed};
 ghost use Rattle.tool_runs.specs.output.Outputs.{Output, after_pieces, finished, unless_refused};
 ghost use Rattle.tool_runs.specs.output.Runs.{Steps, StopsWriting};
 ghost use Rattle.tool_runs.specs.front.Reading.{AreWithin};
 ghost use Rattle.tool_runs.specs.Commands.{answer_to, only};
-ghost use Rattle.tool_types.specs.Declaring.{AllGood, AreGood, IsGood, declared_view};
+ghost use Rattle.tool_types.specs.Declaring.{AllGood, AreIdentified, Identifies, IsGood, declared_view};
 ghost use Rattle.tool_commands.specs.listing.Listing as spec;
 
 use std::alloc::Global;
-use tool_runs::output::{Halt, Stop, Style};
+use tool_runs::output::{Ending, Halt, Stop, Style};
 use tool_runs::{Answers, say_pieces};
 use tool_types::{Declared, declare};
-use type_object::Pool;
-use type_resolve::objects_of;
+use type_resolve::Identifiers;
 use type_trees::{HashId, Named};
 use xt_idl::print;
 use xt_io::{Item, Sink};
@@ -46,14 +44,11 @@ fn object_text(alloc: Global, id: &HashId, name: &Option<Text>) -> Result<Text, 
     Ok(text)
 }
 
-// A type's line. Its objects are in the pool already.
-fn type_text(alloc: Global, named: &Named, pool: &mut Pool) -> Result<Text, OutOfMemory>
-    requires { objects.has_objects (tree named.now.ty) ≡ true }
+// A type's line.
+fn type_text(alloc: Global, named: &Named, ids: &Identifiers) -> Result<Text, OutOfMemory>
+    requires { Identifies (tree named.now.ty) ids.now }
     ensures { IfOk result (λ text. text ≡ spec.type_line (named.now.name, tree named.now.ty)) }
 {
-    let Ok(ids) = objects_of(alloc, named, pool) else {
-        return Err(OutOfMemory);
-    };
     let mut text = Text::from_octets(alloc, b"// ")?;
     text.append(named.name.octets())?;
     let end = format!(in alloc; " {} {}\n", ids.minimal, ids.complete)?;
@@ -64,68 +59,58 @@ fn type_text(alloc: Global, named: &Named, pool: &mut Pool) -> Result<Text, OutO
 fn push_lines(
     alloc: Global,
     types: &[Named],
-    pool: &mut Pool,
+    ids: &[Identifiers],
     text: &mut Text,
 ) -> Result<(), OutOfMemory>
-    requires { AreGood types.now }
+    requires { AreIdentified types.now ids.now }
     ensures { OnOk result (text.new ≡ text.old ++ concat (map spec.type_line (idl_types.declared types.now))) }
 {
-    for named in types {
-        let line = type_text(alloc, named, pool)?;
+    for (at, named) in types.iter().enumerate() {
+        let line = type_text(alloc, named, &ids[at])?;
         text.append(line.octets())?;
     }
     Ok(())
 }
 
-fn types_text(alloc: Global, types: &Row<Named>, pool: &mut Pool) -> Result<Text, OutOfMemory>
-    requires { AreGood types.now }
+fn types_text(alloc: Global, types: &Row<Named>, ids: &[Identifiers]) -> Result<Text, OutOfMemory>
+    requires { AreIdentified types.now ids.now }
     ensures { IfOk result (λ text. text ≡ printed (idl_types.declared types.now) ++ concat (map spec.type_line (idl_types.declared types.now))) }
 {
     let mut text = print(alloc, types)?;
-    push_lines(alloc, types.as_slice(), pool, &mut text)?;
+    push_lines(alloc, types.as_slice(), ids, &mut text)?;
     Ok(text)
 }
 
-fn shown(alloc: Global, declared: &Declared, pool: &mut Pool) -> Result<Text, OutOfMemory>
+fn shown(alloc: Global, declared: &Declared) -> Result<Text, OutOfMemory>
     requires { IsGood declared.now }
     ensures { IfOk result (λ text. text ≡ concat (spec.shown (declared_view declared.now))) }
 {
     match declared {
-        Declared::Types(types) => types_text(alloc, types, pool),
+        Declared::Types { types, ids } => types_text(alloc, types, ids.as_slice()),
         Declared::Object { id, name } => object_text(alloc, id, name),
     }
 }
 
-fn show_one<K: Sink>(
-    alloc: Global,
-    declared: &Declared,
-    pool: &mut Pool,
-    sink: &mut K,
-) -> Result<(), Stop>
+fn show_one<K: Sink>(alloc: Global, declared: &Declared, sink: &mut K) -> Result<(), Stop>
     requires { IsGood declared.now }
     ensures steps { (rest : Output) → Steps Style.Lines (Some (after_pieces (spec.shown (declared_view declared.now)) rest)) (Some rest) result (K.taken sink.old) (K.taken sink.new) }
     ensures stops { StopsWriting (K.faults sink.old) (K.faults sink.new) result }
     ensures same { K.name sink.new ≡ K.name sink.old }
 {
-    match shown(alloc, declared, pool) {
+    match shown(alloc, declared) {
         Ok(text) => say_pieces(sink, text.octets()),
         Err(_) => Err(Stop::Halted(Halt::OutOfMemory)),
     }
 }
 
-fn show_all<K: Sink>(
-    alloc: Global,
-    records: &[Declared],
-    pool: &mut Pool,
-    sink: &mut K,
-) -> Result<(), Stop>
+fn show_all<K: Sink>(alloc: Global, records: &[Declared], sink: &mut K) -> Result<(), Stop>
     requires { AllGood records.now }
     ensures steps { Steps Style.Lines (Some (only (spec.all_shown (map declared_view records.now)))) (Some finished) result (K.taken sink.old) (K.taken sink.new) }
     ensures stops { StopsWriting (K.faults sink.old) (K.faults sink.new) result }
     ensures same { K.name sink.new ≡ K.name sink.old }
 {
     for declared in records {
-        match show_one(alloc, declared, pool, sink) {
+        match show_one(alloc, declared, sink) {
             Ok(()) => {}
             Err(stop) => return Err(stop),
         }
@@ -139,19 +124,24 @@ impl Answers for Showing {
 
     ghost style = { styles.Lines };
 
-    ghost answered = { λ s records. show_lines records };
+    ghost answered = { λ s records. answer_to show_lines records };
 
     fn writes() -> Style {
         Style::Lines
     }
 
-    fn answer<K: Sink>(&self, alloc: Global, records: &[Item], sink: &mut K) -> Result<(), Stop> {
+    fn answer<K: Sink>(
+        &self,
+        alloc: Global,
+        records: &[Item],
+        sink: &mut K,
+    ) -> Result<Ending, Stop> {
         match declare(alloc, records) {
             Err(stop) => Err(stop),
-            Ok((declared, pool)) => {
-                let mut pool = pool;
-                show_all(alloc, declared.as_slice(), &mut pool, sink)
-            }
+            Ok((declared, _)) => match show_all(alloc, declared.as_slice(), sink) {
+                Err(stop) => Err(stop),
+                Ok(()) => Ok(Ending::Done),
+            },
         }
     }
 }

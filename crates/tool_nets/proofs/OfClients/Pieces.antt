@@ -61,4 +61,4 @@ module _ {X : Type 0} (piece_of : X → List ℕ) (items : List X) where
   -- all were written
   pub said_all : (i : ℕ) (old new : Option (List ℕ)) → length items ≤ i → SaidUpTo i old new → Ends (only (map piece_of items)) (Ok Done) old new
   said_all i old new end p =
-      all_done (Some (only (map piece_of items))) (only (map piece_of (drop i items))) old new (ap (λ (l : List X). only (map piece_of l)) (drop_all i items end)) p
+      all_done (Some (only (map piece_of items))) (only (map piece_of (drop i items))) Done old new (ap (λ (l : List X). only (map piece_of l)) (drop_all i items end)) p

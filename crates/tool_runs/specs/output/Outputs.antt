@@ -28,9 +28,13 @@ text_of output = concat output.pieces
 abbrev pub after_pieces : List (List ℕ) → Output → Output
 after_pieces pieces output = record { pieces = pieces ++ output.pieces; ending = output.ending }
 
+-- nothing more, and this ending
+abbrev pub ended_as : Ending → Output
+ended_as ending = record { pieces = []; ending = ending }
+
 -- nothing more
 abbrev pub finished : Output
-finished = record { pieces = []; ending = Done }
+finished = ended_as Done
 
 -- Why a command is refused: the words of its last line, and the cause.
 pub record Refusal : Type 0 where

@@ -18,7 +18,7 @@ use Rattle.tool_runs.specs.declared.output.halt.Halt.TheVariants as halts
 use Rattle.tool_runs.specs.declared.output.stop.Refused.{Refused}
 use Rattle.tool_runs.specs.declared.output.stop.Stop.{Stop}
 use Rattle.tool_runs.specs.declared.output.stop.Stop.TheVariants as stops
-use Rattle.tool_runs.specs.output.Outputs.{Output, Refusal, text_of, after_pieces, refused, broken, misplaced, same_kind}
+use Rattle.tool_runs.specs.output.Outputs.{Output, Refusal, text_of, after_pieces, ended_as, refused, broken, misplaced, same_kind}
 
 -- ---- an output
 
@@ -167,6 +167,11 @@ pub record GoesOn (old new : Reading) : Type 0 where
 abbrev pub at_number : (ℕ → Output) → Result ℕ Stop → Option Output
 at_number more (Ok k) = Some (more k)
 at_number more (Err stop) = None
+
+-- what is still to come where all was written but the ending
+abbrev pub at_ending : Result Ending Stop → Option Output
+at_ending (Ok ending) = Some (ended_as ending)
+at_ending (Err stop) = None
 
 -- ---- one record, whose payload was read whole or is cut
 

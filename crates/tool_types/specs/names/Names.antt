@@ -22,16 +22,17 @@ pub data Meaning : Type 0 where
   typed : Tree → Meaning
   identified : HashId → Meaning
 
-abbrev pub typed_as : List ℕ → idl_types.Declared → Option Meaning
-typed_as name [] = None
-typed_as name (t ∷ ts) = if bytes_eq t.0 name then Some (typed t.1) else typed_as name ts
+-- the first type of that name in a text
+abbrev pub type_by_name : List ℕ → idl_types.Declared → Option Tree
+type_by_name name [] = None
+type_by_name name (t ∷ ts) = if bytes_eq t.0 name then Some t.1 else type_by_name name ts
 
 abbrev pub has_name : List ℕ → Option (List ℕ) → Bool
 has_name name None = false
 has_name name (Some other) = bytes_eq other name
 
 abbrev pub in_record : List ℕ → Declared → Option Meaning
-in_record name (types ts) = typed_as name ts
+in_record name (types ts) = option_map typed (type_by_name name ts)
 in_record name (object id other) = if has_name name other then Some (identified id) else None
 
 abbrev pub or_else : Option Meaning → Option Meaning → Option Meaning

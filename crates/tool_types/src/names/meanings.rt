@@ -2,35 +2,62 @@ ghost use Rattle.std.specs.Prelude.{◌≡◌, IfSome, map, slice_get};
 ghost use Rattle.std.specs.Option.{option_map};
 ghost use Rattle.idl_types.specs.State as idl_types;
 ghost use Rattle.tool_words.specs.View.{form_view};
-ghost use Rattle.tool_types.specs.Declaring.{AllGood, AreGood, IsGood, declared_view};
+ghost use Rattle.tool_types.specs.Declaring.{AllGood, AreGood, AreIdentified, IsGood, declared_view};
 ghost use Rattle.tool_types.specs.names.Names as spec;
-ghost use Rattle.tool_types.specs.names.Meanings.{IsSound, meaning_view};
+ghost use Rattle.tool_types.specs.names.Meanings.{IsSound, IsSoundType, meaning_view, tree_of};
 
 use crate::Declared;
 use tool_words::Form;
 use type_object::Pool;
+use type_resolve::Identifiers;
 use type_trees::{HashId, Named};
 use xt_lists::Text;
+
+/// A type that a text declares, and its identifiers.
+#[derive(Clone, Copy)]
+pub struct DeclaredType<'a> {
+    pub named: &'a Named,
+    pub ids: Identifiers,
+}
 
 /// What is meant: a type that a text declares, or what an identifier stands for.
 #[derive(Clone, Copy)]
 pub enum Meaning<'a> {
-    Typed(&'a Named),
+    Typed(DeclaredType<'a>),
     Identified(HashId),
 }
 
-// The first type of that name.
-fn typed_as<'a>(name: &[u8], types: &'a [Named]) -> Option<Meaning<'a>>
-    requires { AreGood types.now }
-    ensures meaning { option_map meaning_view result ≡ spec.typed_as name.now (idl_types.declared types.now) }
-    ensures sound { IfSome result IsSound }
+/// The first type of that name among the types of a text, which stand beside their identifiers.
+pub fn type_by_name<'a>(
+    name: &[u8],
+    types: &'a [Named],
+    ids: &[Identifiers],
+) -> Option<DeclaredType<'a>>
+    requires good { AreGood types.now }
+    requires identified { AreIdentified types.now ids.now }
+    ensures found { option_map tree_of result ≡ spec.type_by_name name.now (idl_types.declared types.now) }
+    ensures sound { IfSome result IsSoundType }
 {
-    for named in types {
+    for (at, named) in types.iter().enumerate() {
         if named.name.octets() == name {
-            return Some(Meaning::Typed(named));
+            let ids = ids[at];
+            return Some(DeclaredType { named, ids });
         }
     }
     None
+}
+
+// The same as what is meant.
+fn in_text<'a>(name: &[u8], types: &'a [Named], ids: &[Identifiers]) -> Option<Meaning<'a>>
+    requires good { AreGood types.now }
+    requires identified { AreIdentified types.now ids.now }
+    ensures meaning { option_map meaning_view result ≡ option_map spec.typed (spec.type_by_name name.now (idl_types.declared types.now)) }
+    ensures sound { IfSome result IsSound }
+{
+    match type_by_name(name, types, ids) {
+        Some(found) => Some(Meaning::Typed(found)),
+        None => None,
+    }
 }
 
 fn has_name(name: &[u8], other: &Option<Text>) -> bool
@@ -48,7 +75,7 @@ fn in_record<'a>(name: &[u8], declared: &'a Declared) -> Option<Meaning<'a>>
     ensures sound { IfSome result IsSound }
 {
     match declared {
-        Declared::Types(types) => typed_as(name, types.as_slice()),
+        Declared::Types { types, ids } => in_text(name, types.as_slice(), ids.as_slice()),
         Declared::Object { id, name: other } => {
             if has_name(name, other) {
                 Some(Meaning::Identified(*id))

@@ -1,4 +1,4 @@
-ghost use Rattle.std.specs.Prelude.{◌≡◌, IfOk, IfSome, OnOk, map, true};
+ghost use Rattle.std.specs.Prelude.{◌≡◌, IfOk, IfSome, Ok, OnOk, map, true};
 ghost use Rattle.std.specs.Option.{option_map};
 ghost use Rattle.projection_laws.specs.Premises.{IsValid};
 ghost use Rattle.type_trees.specs.samples.Tops.{is_top};
@@ -7,38 +7,52 @@ ghost use Rattle.type_trees.specs.Bridge.{type_shape};
 ghost use Rattle.tool_runs.specs.output.Runs.{Comes};
 ghost use Rattle.tool_words.specs.View.{reference_view};
 ghost use Rattle.tool_types.specs.Declaring.{AllGood, declared_view};
+ghost use Rattle.tool_types.specs.Coming.{AllComeBack};
 ghost use Rattle.tool_types.specs.names.Names as spec;
-ghost use Rattle.tool_types.specs.names.Meanings.{IsSound, meaning_view};
+ghost use Rattle.tool_types.specs.names.Identified.{hash_meant, id_named as named_id, Resolves};
+ghost use Rattle.tool_types.specs.names.Meanings.{IsFound, IsSound, IsSoundType, meaning_view, tree_of};
 
 use crate::Declared;
-use crate::names::meanings::{Meaning, meant};
+use crate::names::meanings::{DeclaredType, Meaning, meant};
 use crate::names::refusals::{refuse_name, refuse_top, refuse_walk};
 use object_walks::resolve;
 use std::alloc::Global;
 use tool_runs::output::{Halt, Stop};
 use tool_words::Reference;
 use type_object::Pool;
-use type_trees::XType;
 use type_trees::samples::is_top;
+use type_trees::{HashId, XType};
 use type_values::copy_type;
 
-fn type_resolved(alloc: Global, id: &type_trees::HashId, pool: &Pool) -> Result<XType, Stop>
-    ensures comes { Comes (spec.type_resolved id.now pool.now) tree result }
-    ensures valid { IfOk result IsValid }
+/// A type that a word names, and the identifier that resolves to it: that of the type's complete object, where a text declares it.
+#[derive(Drop)]
+pub struct NamedType {
+    pub ty: XType,
+    pub id: HashId,
+}
+
+fn type_resolved(alloc: Global, id: HashId, pool: &Pool) -> Result<NamedType, Stop>
+    ensures comes { Comes (spec.type_resolved id pool.now) (λ found. tree found.ty) result }
+    ensures valid { IfOk result (λ found. IsValid found.ty) }
+    ensures id { IfOk result (λ found. found.id ≡ id) }
 {
-    match resolve(alloc, pool, id) {
-        Ok(ty) => Ok(ty),
+    match resolve(alloc, pool, &id) {
+        Ok(ty) => Ok(NamedType { ty, id }),
         Err(fault) => Err(refuse_walk(alloc, fault)),
     }
 }
 
-fn type_declared(alloc: Global, ty: &XType) -> Result<XType, Stop>
-    requires { IsValid ty.now }
-    ensures comes { Comes (spec.as_declared (tree ty.now)) tree result }
-    ensures valid { IfOk result IsValid }
+fn type_declared(alloc: Global, declared: &DeclaredType<'_>) -> Result<NamedType, Stop>
+    requires { IsValid declared.now.named.now.ty }
+    ensures comes { Comes (spec.as_declared (tree_of declared.now)) (λ found. tree found.ty) result }
+    ensures valid { IfOk result (λ found. IsValid found.ty) }
+    ensures id { IfOk result (λ found. found.id ≡ declared.now.ids.complete) }
 {
-    match copy_type(alloc, ty) {
-        Ok(copy) => Ok(copy),
+    match copy_type(alloc, &declared.named.ty) {
+        Ok(ty) => Ok(NamedType {
+            ty,
+            id: declared.ids.complete,
+        }),
         Err(_) => Err(Stop::Halted(Halt::OutOfMemory)),
     }
 }
@@ -48,15 +62,16 @@ fn type_meant(
     word: &[u8],
     meaning: &Option<Meaning<'_>>,
     pool: &Pool,
-) -> Result<XType, Stop>
+) -> Result<NamedType, Stop>
     requires { IfSome meaning.now IsSound }
-    ensures comes { Comes (spec.type_meant word.now pool.now (option_map meaning_view meaning.now)) tree result }
-    ensures valid { IfOk result IsValid }
+    ensures comes { Comes (spec.type_meant word.now pool.now (option_map meaning_view meaning.now)) (λ found. tree found.ty) result }
+    ensures valid { IfOk result (λ found. IsValid found.ty) }
+    ensures id { IfOk result (λ found. hash_meant word.now (option_map meaning_view meaning.now) ≡ Ok found.id) }
 {
     match meaning {
         None => Err(refuse_name(alloc, word)),
-        Some(Meaning::Typed(named)) => type_declared(alloc, &named.ty),
-        Some(Meaning::Identified(id)) => type_resolved(alloc, id, pool),
+        Some(Meaning::Typed(declared)) => type_declared(alloc, declared),
+        Some(Meaning::Identified(id)) => type_resolved(alloc, *id, pool),
     }
 }
 
@@ -66,10 +81,12 @@ pub fn type_named(
     reference: &Reference<'_>,
     records: &[Declared],
     pool: &Pool,
-) -> Result<XType, Stop>
-    requires { AllGood records.now }
-    ensures comes { Comes (spec.type_named (reference_view reference.now) (map declared_view records.now, pool.now)) tree result }
-    ensures valid { IfOk result IsValid }
+) -> Result<NamedType, Stop>
+    requires good { AllGood records.now }
+    requires back { AllComeBack pool.now (map declared_view records.now) }
+    ensures comes { Comes (spec.type_named (reference_view reference.now) (map declared_view records.now, pool.now)) (λ found. tree found.ty) result }
+    ensures id { IfOk result (λ found. hash_meant (reference_view reference.now).word (spec.meant (reference_view reference.now).form (map declared_view records.now, pool.now)) ≡ Ok found.id) }
+    ensures found { IfOk result (IsFound pool.now) }
 {
     let meaning = meant(&reference.form, records, pool);
     type_meant(alloc, reference.word, &meaning, pool)
@@ -92,18 +109,38 @@ pub fn top_named(
     reference: &Reference<'_>,
     records: &[Declared],
     pool: &Pool,
-) -> Result<XType, Stop>
-    requires { AllGood records.now }
-    ensures comes { Comes (spec.top_named (reference_view reference.now) (map declared_view records.now, pool.now)) tree result }
-    ensures valid { IfOk result IsValid }
-    ensures top { IfOk result (λ ty. is_top (type_shape ty) ≡ true) }
+) -> Result<NamedType, Stop>
+    requires good { AllGood records.now }
+    requires back { AllComeBack pool.now (map declared_view records.now) }
+    ensures comes { Comes (spec.top_named (reference_view reference.now) (map declared_view records.now, pool.now)) (λ found. tree found.ty) result }
+    ensures top { IfOk result (λ found. is_top (type_shape found.ty) ≡ true) }
+    ensures id { IfOk result (λ found. hash_meant (reference_view reference.now).word (spec.meant (reference_view reference.now).form (map declared_view records.now, pool.now)) ≡ Ok found.id) }
+    ensures found { IfOk result (IsFound pool.now) }
 {
     match type_named(alloc, reference, records, pool) {
         Err(stop) => Err(stop),
-        Ok(ty) => match topped(alloc, reference.word, &ty) {
+        Ok(found) => match topped(alloc, reference.word, &found.ty) {
             Err(stop) => Err(stop),
-            Ok(()) => Ok(ty),
+            Ok(()) => Ok(found),
         },
+    }
+}
+
+/// The identifier of the structure or union that a word names. It has a type in the pool.
+pub fn id_named(
+    alloc: Global,
+    reference: &Reference<'_>,
+    records: &[Declared],
+    pool: &Pool,
+) -> Result<HashId, Stop>
+    requires good { AllGood records.now }
+    requires back { AllComeBack pool.now (map declared_view records.now) }
+    ensures comes { Comes (named_id (reference_view reference.now) (map declared_view records.now, pool.now)) (λ id. id) result }
+    ensures resolves { IfOk result (λ id. Resolves pool.now id) }
+{
+    match top_named(alloc, reference, records, pool) {
+        Err(stop) => Err(stop),
+        Ok(found) => Ok(found.id),
     }
 }
 
@@ -111,13 +148,13 @@ fn both_topped(
     alloc: Global,
     reader: &Reference<'_>,
     writer: &Reference<'_>,
-    types: &(XType, XType),
+    types: &(NamedType, NamedType),
 ) -> Result<(), Stop>
-    ensures { Comes (spec.both_topped (reference_view reader.now) (reference_view writer.now) (tree types.now.0, tree types.now.1)) (λ u. u) result }
+    ensures { Comes (spec.both_topped (reference_view reader.now) (reference_view writer.now) (tree types.now.0.ty, tree types.now.1.ty)) (λ u. u) result }
 {
-    match topped(alloc, reader.word, &types.0) {
+    match topped(alloc, reader.word, &types.0.ty) {
         Err(stop) => Err(stop),
-        Ok(()) => topped(alloc, writer.word, &types.1),
+        Ok(()) => topped(alloc, writer.word, &types.1.ty),
     }
 }
 
@@ -127,10 +164,11 @@ fn both_named(
     writer: &Reference<'_>,
     records: &[Declared],
     pool: &Pool,
-) -> Result<(XType, XType), Stop>
-    requires { AllGood records.now }
-    ensures comes { Comes (spec.both_named (reference_view reader.now) (reference_view writer.now) (map declared_view records.now, pool.now)) (λ types. (tree types.0, tree types.1)) result }
-    ensures valid { IfOk result (λ types. IsValid types.0 × IsValid types.1) }
+) -> Result<(NamedType, NamedType), Stop>
+    requires good { AllGood records.now }
+    requires back { AllComeBack pool.now (map declared_view records.now) }
+    ensures comes { Comes (spec.both_named (reference_view reader.now) (reference_view writer.now) (map declared_view records.now, pool.now)) (λ types. (tree types.0.ty, tree types.1.ty)) result }
+    ensures found { IfOk result (λ types. IsFound pool.now types.0 × IsFound pool.now types.1) }
 {
     match type_named(alloc, reader, records, pool) {
         Err(stop) => Err(stop),
@@ -148,10 +186,11 @@ pub fn pair_named(
     writer: &Reference<'_>,
     records: &[Declared],
     pool: &Pool,
-) -> Result<(XType, XType), Stop>
-    requires { AllGood records.now }
-    ensures comes { Comes (spec.pair_named (reference_view reader.now) (reference_view writer.now) (map declared_view records.now, pool.now)) (λ types. (tree types.0, tree types.1)) result }
-    ensures valid { IfOk result (λ types. IsValid types.0 × IsValid types.1) }
+) -> Result<(NamedType, NamedType), Stop>
+    requires good { AllGood records.now }
+    requires back { AllComeBack pool.now (map declared_view records.now) }
+    ensures comes { Comes (spec.pair_named (reference_view reader.now) (reference_view writer.now) (map declared_view records.now, pool.now)) (λ types. (tree types.0.ty, tree types.1.ty)) result }
+    ensures found { IfOk result (λ types. IsFound pool.now types.0 × IsFound pool.now types.1) }
 {
     match both_named(alloc, reader, writer, records, pool) {
         Err(stop) => Err(stop),

@@ -1,6 +1,7 @@
 use Rattle.std.proofs.Common.{Some, refl, subst}
 use Rattle.xt_io.specs.Bundles.{nothing}
 use Rattle.tool_runs.specs.declared.output.ending.Style.{Style}
+use Rattle.tool_runs.specs.declared.output.ending.Ending.TheVariants.{Done}
 use Rattle.tool_runs.specs.output.Outputs.{finished}
 use Rattle.tool_runs.specs.Stopping.{Concludes}
 use Rattle.tool_runs.proofs.Joined.{all_done, concluded}
@@ -13,4 +14,4 @@ returns-in-Err-clause-output g c number =
 
 pub returns-in-Ok-clause-output : goal.returns-in-Ok-clause-output
 returns-in-Ok-clause-output g c number =
-    all_done (Some (g.P.Run.Turns.to_write c.args.turns.now number nothing)) finished (g.K.Sink.taken c.args.sink.now) (g.K.Sink.taken c.end.new.sink) refl (c.in-Ok.ensures.steps number)
+    all_done (Some (g.P.Run.Turns.to_write c.args.turns.now number nothing)) finished Done (g.K.Sink.taken c.args.sink.now) (g.K.Sink.taken c.end.new.sink) refl (c.in-Ok.ensures.steps number)

@@ -39,6 +39,9 @@ returns-clause-declared c =
     ∙ ap (λ (items : List Item). after_declared (map declared_view c.loop-item.records) (spec.declare c.loop-item.number c.loop-item.pool items)) (drop_of_length-le c.args.items.now c.loop-item-test.false)
     ∙ records_end c.loop-item.number c.loop-item.pool c.loop-item.records
 
+pub returns-clause-back : goal.returns-clause-back
+returns-clause-back c = c.declared_comes_back.ensures c.args.items.now (map declared_view c.loop-item.records, c.loop-item.pool) (returns-clause-declared c)
+
 pub declare_record-requires : goal.declare_record-requires
 declare_record-requires c =
     let next = next_item c.args.items.now c.loop-item.item-index c.item-item.result c.loop-item-test.true c.item-item.is in

@@ -1,0 +1,36 @@
+use Rattle.std.proofs.Common.{◌≡◌, ◌+◌, Bool, List, ◌∷◌, Some, None, Err, ap, ◌∙◌, sym, subst}
+use Rattle.type_trees.specs.declared.types.Named.{Named}
+use Rattle.idl_types.specs.State.{declared}
+use Rattle.tool_runs.specs.declared.output.ending.Style.TheVariants.{Lines}
+use Rattle.tool_runs.specs.output.Outputs.{Output}
+use Rattle.tool_runs.specs.output.Runs.{Leads, Steps}
+use Rattle.tool_types.specs.Declaring.{declared_view}
+use Rattle.tool_types.specs.Types.{types}
+use Rattle.tool_verdicts.specs.Versions.{versions}
+use Rattle.tool_commands.specs.Comparing.{behind_last, remaining}
+use Rattle.tool_commands.specs.declared.comparing.Progress.{Progress}
+use Rattle.tool_commands.proofs.Told.{record_told, stops_told}
+use Rattle.tool_commands.proofs.comparing.tell_record.Goals as goal
+
+pub returns-in-Ok-clause-steps : goal.returns-in-Ok-clause-steps
+returns-in-Ok-clause-steps g c rest =
+    let q = c.args.terms.now.policy in
+    let r = c.args.terms.now.rep in
+    let k = c.args.number in
+    let ts = declared c.as_slice.result.now in
+    let is : declared_view c.args.declared.now ≡ types ts = ap declared_view c.in-Types.is ∙ ap (λ (l : List Named). types (declared l)) (sym c.as_slice.ensures) in
+    let now : Progress = record { older = Some (record { number = k; types = c.as_slice.result; ids = c.as_slice-in-Types.result }); broke = c.in-Ok.broke } in
+    subst (λ (o : Output). Leads (Some o) (Some (remaining q r now (k + 1) rest)) (g.K.Sink.taken c.args.sink.now) (g.K.Sink.taken c.tell_version.new.sink)) (sym (record_told q r c.args.progress k (declared_view c.args.declared.now) ts rest is)) (c.in-Ok.ensures.steps (behind_last q r (Some (record { number = k; types = ts })) (versions (k + 1) rest)))
+
+pub returns-in-Err-clause-steps : goal.returns-in-Err-clause-steps
+returns-in-Err-clause-steps g c rest =
+    let q = c.args.terms.now.policy in
+    let r = c.args.terms.now.rep in
+    let k = c.args.number in
+    let ts = declared c.as_slice.result.now in
+    let old = g.K.Sink.taken c.args.sink.now in
+    let new = g.K.Sink.taken c.tell_version.new.sink in
+    let is : declared_view c.args.declared.now ≡ types ts = ap declared_view c.in-Types.is ∙ ap (λ (l : List Named). types (declared l)) (sym c.as_slice.ensures) in
+    let first = remaining q r c.args.progress k (declared_view c.args.declared.now ∷ rest) in
+    let steps = subst (λ (o : Output). Steps {T = Bool} Lines (Some o) None (Err c.in-Err.stop) old new) (sym (record_told q r c.args.progress k (declared_view c.args.declared.now) ts rest is)) (c.in-Err.ensures.steps (behind_last q r (Some (record { number = k; types = ts })) (versions (k + 1) rest))) in
+    stops_told Lines first c.in-Err.stop old new steps
