@@ -1,5 +1,5 @@
 -- Nothing is written before a body, and nothing at its end.
-use Rattle.std.proofs.Common.{◌≡◌, ℕ, List, [], Some, Ok, refl}
+use Rattle.std.proofs.Common.{ℕ, List, [], Some, Ok, refl}
 use Rattle.std.specs.declared.option.Option.{Option}
 use Rattle.std.proofs.KnownBytes.{Appends-nil}
 use Rattle.xt_io.specs.declared.Item.{Item}

@@ -1,5 +1,5 @@
 -- What each version changes, told record after record.
-use Rattle.std.proofs.Common.{◌≡◌, ℕ, ◌+◌, List, [], ◌∷◌, ◌++◌, ◌≤◌, suc, length, map, append_assoc, drop, true, false, Some, None, Result, Ok, Err, refl, sym, ap, ◌∙◌, subst}
+use Rattle.std.proofs.Common.{◌≡◌, ℕ, ◌+◌, List, [], ◌∷◌, ◌++◌, ◌≤◌, suc, length, map, drop, true, false, Some, None, Result, Ok, Err, refl, sym, ap, ◌∙◌, subst}
 use Rattle.std.specs.Prelude.{Bool, ◌||◌, Option}
 use Rattle.std.specs.List.{concat}
 use Rattle.std.specs.Option.{option_map}

@@ -1,5 +1,5 @@
 -- What `compare` still has to write, record after record (this profile's own).
-use Rattle.std.specs.Prelude.{ℕ, Bool, ◌||◌, List, [], ◌∷◌, Option, Some, None, Result, Ok, Err}
+use Rattle.std.specs.Prelude.{ℕ, Bool, List, [], ◌++◌, Option, Some, None, Result, Ok, Err}
 use Rattle.std.specs.Option.{option_map}
 use Rattle.xt_shapes.specs.declared.leaves.Rep.{Rep}
 use Rattle.xcdr_model.specs.declared.verdict.Policy.{Policy}
@@ -9,6 +9,7 @@ use Rattle.tool_types.specs.Types.{Declared}
 use Rattle.tool_verdicts.specs.Versions as spec
 use Rattle.tool_verdicts.specs.Versions.{Finding, between, behind, findings, telling, versions}
 use Rattle.tool_verdicts.specs.Reports.{version_view}
+use Rattle.tool_verdicts.specs.declared.judging.Terms.{Terms}
 use Rattle.tool_commands.specs.declared.comparing.Progress.{Progress}
 
 -- behind the last version that there was, if there was one
@@ -25,10 +26,18 @@ next_findings q r (Some v) w = between q r v w
 abbrev pub remaining : Policy → Rep → Progress → ℕ → List Declared → Output
 remaining q r p k ds = telling p.broke (behind_last q r (option_map version_view p.older) (versions k ds))
 
+-- the same under these terms
+abbrev pub remaining_under : Terms → Progress → ℕ → List Declared → Output
+remaining_under t p k ds = remaining t.policy t.rep p k ds
+
 -- behind a record
-abbrev pub remaining_on : Policy → Rep → ℕ → List Declared → Result Progress Stop → Option Output
-remaining_on q r k ds (Ok p) = Some (remaining q r p k ds)
-remaining_on q r k ds (Err stop) = None
+abbrev pub remaining_on : Terms → ℕ → List Declared → Result Progress Stop → Option Output
+remaining_on t k ds (Ok p) = Some (remaining_under t p k ds)
+remaining_on t k ds (Err stop) = None
+
+-- what is still to be written from a version on, with these findings behind it
+abbrev pub telling_from : Terms → Progress → spec.Version → List Finding → Output
+telling_from t p w rest = telling p.broke (next_findings t.policy t.rep (option_map version_view p.older) w ++ rest)
 
 -- what is still to be written behind a version, by whether something breaks
 abbrev pub telling_on : List Finding → Result Bool Stop → Option Output

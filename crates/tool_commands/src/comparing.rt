@@ -1,5 +1,4 @@
-ghost use Rattle.std.specs.Prelude.{◌≡◌, ◌≤◌, ◌+◌, ◌∷◌, ◌++◌, ◌||◌, List, Some, None, IfOk, IfSome, length, map, false};
-ghost use Rattle.std.specs.Option.{option_map};
+ghost use Rattle.std.specs.Prelude.{◌≡◌, ◌≤◌, ◌+◌, ◌∷◌, ◌||◌, List, Some, None, IfOk, IfSome, length, map, false};
 ghost use Rattle.tool_runs.specs.output.Outputs.{unless_refused};
 ghost use Rattle.tool_runs.specs.output.Runs.{Steps, StopsWriting, at_ending};
 ghost use Rattle.tool_runs.specs.front.Reading.{AreWithin};
@@ -9,7 +8,7 @@ ghost use Rattle.tool_types.specs.Declaring.{AllGood, IsGood, declared_view};
 ghost use Rattle.tool_verdicts.specs.Versions as spec;
 ghost use Rattle.tool_verdicts.specs.Versions.{Finding, compare_output};
 ghost use Rattle.tool_verdicts.specs.Reports.{IsVersion, version_view};
-ghost use Rattle.tool_commands.specs.Comparing.{next_findings, remaining, remaining_on, telling_on};
+ghost use Rattle.tool_commands.specs.Comparing.{remaining_on, remaining_under, telling_from, telling_on};
 
 use std::alloc::Global;
 use tool_runs::output::{Cause, Ending, Halt, Stop, Style};
@@ -50,7 +49,7 @@ fn tell_version<K: Sink>(
 ) -> Result<bool, Stop>
     requires older { IfSome progress.now.older (IsVersion pool.now) }
     requires newer { IsVersion pool.now newer.now }
-    ensures steps { (rest : List Finding) → Steps Style.Lines (Some (spec.telling progress.now.broke (next_findings terms.now.policy terms.now.rep (option_map version_view progress.now.older) (version_view newer.now) ++ rest))) (telling_on rest result) result (K.taken sink.old) (K.taken sink.new) }
+    ensures steps { (rest : List Finding) → Steps Style.Lines (Some (telling_from terms.now progress.now (version_view newer.now) rest)) (telling_on rest result) result (K.taken sink.old) (K.taken sink.new) }
     ensures stops { StopsWriting (K.faults sink.old) (K.faults sink.new) result }
     ensures same { K.name sink.new ≡ K.name sink.old }
 {
@@ -79,7 +78,7 @@ fn tell_record<'a, K: Sink>(
     requires good { IsGood declared.now }
     requires back { ComesBack pool.now (declared_view declared.now) }
     requires older { IfSome progress.older (IsVersion pool.now) }
-    ensures steps { (rest : List types.Declared) → Steps Style.Lines (Some (remaining terms.now.policy terms.now.rep progress.entry number (declared_view declared.now ∷ rest))) (remaining_on terms.now.policy terms.now.rep (number + 1) rest result) result (K.taken sink.old) (K.taken sink.new) }
+    ensures steps { (rest : List types.Declared) → Steps Style.Lines (Some (remaining_under terms.now progress.entry number (declared_view declared.now ∷ rest))) (remaining_on terms.now (number + 1) rest result) result (K.taken sink.old) (K.taken sink.new) }
     ensures older { IfOk result (λ p. IfSome p.older (IsVersion pool.now)) }
     ensures stops { StopsWriting (K.faults sink.old) (K.faults sink.new) result }
     ensures same { K.name sink.new ≡ K.name sink.old }

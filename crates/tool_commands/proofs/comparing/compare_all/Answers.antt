@@ -1,4 +1,4 @@
-use Rattle.std.proofs.Common.{◌+◌, ◌∷◌, Some, None, List, map, drop, drop_of_length-le, ap, arith, ◌∙◌, subst, false, length}
+use Rattle.std.proofs.Common.{◌+◌, ◌∷◌, Some, None, List, map, drop, arith, ◌∙◌, subst, false}
 use Rattle.tool_runs.specs.declared.output.ending.Ending.{Ending}
 use Rattle.tool_runs.specs.declared.output.ending.Style.TheVariants.{Lines}
 use Rattle.tool_runs.specs.output.Runs.{Leads}
@@ -10,7 +10,7 @@ use Rattle.tool_verdicts.specs.Versions.{findings, telling, versions}
 use Rattle.tool_commands.specs.Comparing.{remaining}
 use Rattle.tool_commands.specs.declared.comparing.Progress.{Progress}
 use Rattle.tool_commands.proofs.OfListing.Listed.{good_record, next_record}
-use Rattle.tool_commands.proofs.Told.{back_record, end_told}
+use Rattle.tool_commands.proofs.Told.{back_record}
 use Rattle.tool_commands.proofs.comparing.compare_all.Goals as goal
 
 pub returns-in-Err-clause-steps : goal.returns-in-Err-clause-steps
