@@ -17,7 +17,7 @@ use Rattle.tool_runs.specs.declared.output.stop.Stop.{Stop}
 use Rattle.tool_runs.specs.declared.output.stop.Stop.TheVariants as stops
 use Rattle.tool_runs.specs.output.Outputs.{Refusal, ◌>>=◌}
 use Rattle.tool_runs.specs.output.Runs.{StopsBundle, refusal}
-use Rattle.tool_types.specs.Types.{Declaration, Declared, declare, declared_as, declared_by, object_added, pool_refusal, text_parsed, types, with_all, with_objects}
+use Rattle.tool_types.specs.Types.{Declared, declare, declared_as, declared_by, object_added, pool_refusal, text_parsed, types, with_all, with_objects}
 use Rattle.tool_nets.specs.Opened.{StopsFront}
 use Rattle.tool_nets.proofs.Behind.{Stops}
 

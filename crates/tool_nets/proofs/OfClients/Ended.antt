@@ -1,5 +1,5 @@
 -- How a command ends that asks a peer.
-use Rattle.std.proofs.Common.{◌≡◌, ℕ, List, None, Some, Result, Ok, Err, inl, inr, refl, sym, ap, ◌∙◌, subst}
+use Rattle.std.proofs.Common.{◌≡◌, ℕ, List, None, Some, Result, Ok, Err, inl, inr, refl}
 use Rattle.std.specs.declared.option.Option.{Option}
 use Rattle.std.specs.Option.{option_map}
 use Rattle.xt_io.specs.Outside.{Rose}
@@ -12,22 +12,19 @@ use Rattle.lookup_fetch.specs.declared.faults.FetchFault.{FetchFault}
 use Rattle.type_mirror.specs.declared.told.told.Told.{Told}
 use Rattle.type_mirror.specs.declared.told.told.PushFault.{PushFault}
 use Rattle.tool_runs.specs.declared.output.ending.Ending.{Ending}
-use Rattle.tool_runs.specs.declared.output.ending.Ending.TheVariants.{Done}
 use Rattle.tool_runs.specs.declared.output.ending.Style.{Style}
 use Rattle.tool_runs.specs.declared.output.ending.Style.TheVariants.{Lines, Records}
 use Rattle.tool_runs.specs.declared.output.halt.Halt.{Halt}
-use Rattle.tool_runs.specs.declared.output.halt.Halt.TheVariants as halts
 use Rattle.tool_runs.specs.declared.output.stop.Refused.{Refused}
 use Rattle.tool_runs.specs.declared.output.stop.Stop.{Stop}
 use Rattle.tool_runs.specs.declared.output.stop.Stop.TheVariants as stops
 use Rattle.tool_runs.specs.output.Outputs.{Output, Refusal, refused}
 use Rattle.tool_runs.specs.output.Runs.{ComesTold, Ends, refusal}
-use Rattle.tool_runs.proofs.OfOutput.Written.{stops_here}
 use Rattle.tool_runs.specs.Stopping.{Concludes}
 use Rattle.tool_nets.specs.Nets.{EndsIn, Fails, HaltsBefore, Net, net_fault}
-use Rattle.tool_nets.specs.Opened.{AllowedOf, Behind, StopsFront, opened}
+use Rattle.tool_nets.specs.Opened.{Behind, StopsFront, opened}
 use Rattle.tool_nets.specs.clients.Clients.{FetchAllows, FetchCame, PushAllows, PushCame}
-use Rattle.tool_nets.specs.clients.Lines.{fetch_output, push_output, refused_peer}
+use Rattle.tool_nets.specs.clients.Lines.{fetch_output, push_output}
 use Rattle.tool_nets.specs.clients.Saying.{Says}
 
 -- an output that is allowed was written

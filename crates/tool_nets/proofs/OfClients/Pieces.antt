@@ -1,5 +1,5 @@
 -- Pieces that are written one after another, one for each of a list.
-use Rattle.std.proofs.Common.{◌≡◌, ℕ, ◌+◌, ◌≤◌, List, [], ◌∷◌, map, length, drop, None, Some, Result, Ok, Err, OnOk, OnErr, refl, sym, ap, ◌∙◌, subst}
+use Rattle.std.proofs.Common.{◌≡◌, ℕ, ◌+◌, ◌≤◌, List, [], ◌∷◌, map, length, drop, Some, Result, Ok, Err, OnOk, OnErr, refl, ap, ◌∙◌, subst}
 use Rattle.std.specs.Prelude.{Option, slice_get}
 use Rattle.std.proofs.lemmas.List.{drop_all, drop_more}
 use Rattle.std.proofs.lemmas.Option.{get_or_from_slice_get, slice_get_within}
@@ -9,7 +9,7 @@ use Rattle.xt_io.specs.Outside.{AppendsPrefix}
 use Rattle.tool_runs.specs.declared.output.ending.Ending.TheVariants.{Done}
 use Rattle.tool_runs.specs.declared.output.halt.Halt.{Halt}
 use Rattle.tool_runs.specs.declared.output.halt.Halt.TheVariants as halts
-use Rattle.tool_runs.specs.output.Outputs.{Output, after_pieces, finished}
+use Rattle.tool_runs.specs.output.Outputs.{Output, after_pieces}
 use Rattle.tool_runs.specs.output.Runs.{Ends, Leads}
 use Rattle.tool_runs.proofs.OfOutput.Written.{leads_nowhere, leads_on, leads_piece, piece_is_cut, writes_on}
 use Rattle.tool_runs.specs.Commands.{only}

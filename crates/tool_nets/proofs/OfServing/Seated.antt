@@ -1,6 +1,6 @@
 -- Seats with new doors and passes that know all.
 use Rattle.std.proofs.Common.{◌≡◌, ℕ, ◌+◌, List, [], ◌∷◌, ◌++◌, Bool, false, length, length-append, sym, ap, subst, arith}
-use Rattle.std.specs.Prelude.{All, Option}
+use Rattle.std.specs.Prelude.{All, MatchOption, Option, Some}
 use Rattle.std.proofs.lemmas.List.Elements.{All-push, All-weaker}
 use Rattle.xt_io.specs.Links.{Held, IsNewDoor}
 use Rattle.type_object.specs.Pools.{Texts}
@@ -10,6 +10,21 @@ use Rattle.tool_nets.specs.serving.Seats.{IsReady, Knows}
 -- one was moved from one list to another
 pub moved_count : {X Y : Type 0} (xs before : List X) (x : X) (ys after : List Y) (y : Y) (n : ℕ) → xs ≡ before ++ x ∷ [] → after ≡ ys ++ y ∷ [] → length ys + length xs ≡ n → length after + length before ≡ n
 moved_count xs before x ys after y n e f count = omega (arith, ap length e, ap length f, length-append before (x ∷ []), length-append ys (y ∷ []), count)
+
+-- one was taken from each of two lists
+pub both_fewer : {X Y : Type 0} (xs before : List X) (x : X) (ys after : List Y) (y : Y) → xs ≡ before ++ x ∷ [] → ys ≡ after ++ y ∷ [] → length xs ≡ length ys → length before ≡ length after
+both_fewer xs before x ys after y e f same = omega (arith, ap length e, ap length f, length-append before (x ∷ []), length-append after (y ∷ []), same)
+
+-- the last one of a list was taken
+pub popped : {X : Type 0} (old new : List X) (r : Option X) (x : X) → r ≡ Some x → MatchOption r ((old ≡ []) × (new ≡ [])) (λ last. old ≡ new ++ last ∷ []) → old ≡ new ++ x ∷ []
+popped {X} old new r x e taken = subst (λ (o : Option X). MatchOption o ((old ≡ []) × (new ≡ [])) (λ last. old ≡ new ++ last ∷ [])) e taken
+
+-- one more
+pub counted_more : {X : Type 0} (xs all : List X) (x : X) (n : ℕ) → all ≡ xs ++ x ∷ [] → length xs ≡ n → length all ≡ n + 1
+counted_more xs all x n e count = omega (arith, ap length e, length-append xs (x ∷ []), count)
+
+pub all_more : {X : Type 0} (P : X → Type 0) (xs all : List X) (x : X) → all ≡ xs ++ x ∷ [] → P x → All P xs → All P all
+all_more P xs all x e one before = subst (All P) (sym e) (All-push P xs x before one)
 
 module _ {D P : Type 0} (name : List ℕ → List ℕ) (registry : List ℕ) (pool : Texts) (held : D → Option (List Held)) (faults : D → ℕ) (out : D → Bool) (door : P → D) (pass : P → PassView) where
   abbrev pub Ready : P → Type 0

@@ -1,5 +1,5 @@
 -- What the commands may write that ask a peer (own).
-use Rattle.std.specs.Prelude.{◌≡◌, ℕ, List, [], ◌∷◌, ◌⊎◌, map, Option, Some, Result, Ok, Err, IfOk, IsErrOf}
+use Rattle.std.specs.Prelude.{◌≡◌, ℕ, List, [], ◌∷◌, ◌⊎◌, map, Option, Some, Result, IfOk, IsErrOf}
 use Rattle.std.specs.List.{All}
 use Rattle.xt_io.specs.Outside.{Rose}
 use Rattle.xt_io.specs.Links.{IsToldAs, IsHeardFrom, heard_of}

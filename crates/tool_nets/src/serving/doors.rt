@@ -33,38 +33,43 @@ fn pass_of<'r>(alloc: Global, known: &Known<'r>) -> Result<Pass<'r, Md5Naming>, 
     Ok(pass)
 }
 
-/// A seat at a door, with such a pass.
-fn seat_at<'r, D: Door>(
+/// So many passes that know all that was found.
+fn passes_of<'r>(
     alloc: Global,
     known: &Known<'r>,
-    door: D,
-) -> Result<Seat<'r, Md5Naming, D>, OutOfMemory>
+    count: usize,
+) -> Result<Row<Pass<'r, Md5Naming>>, OutOfMemory>
     requires { AreIn known.now.registry.now known.now.findings }
-    ensures door { IfOk result (λ seat. seat.door ≡ door) }
-    ensures pass { IfOk result (λ seat. Knows hash_of known.now.registry.now (map entry_of known.now.findings) seat.pass) }
+    ensures count { IfOk result (λ passes. length passes ≡ count) }
+    ensures knows { IfOk result (All (Knows hash_of known.now.registry.now (map entry_of known.now.findings))) }
 {
-    match pass_of(alloc, known) {
-        Ok(pass) => Ok(Seat { door, pass }),
-        Err(_) => Err(OutOfMemory),
+    let mut passes = Row::new(alloc);
+    for _seat in 0..count {
+        let pass = pass_of(alloc, known)?;
+        passes.push(pass)?;
     }
+    Ok(passes)
 }
 
-/// A seat at each of these doors, from the last to the first.
+/// A seat at each of these doors, from the last to the first, with these passes, which know all that was found.
 fn seats_at<'r, D: Door>(
     alloc: Global,
     known: &Known<'r>,
+    passes: Row<Pass<'r, Md5Naming>>,
     doors: Row<D>,
 ) -> Result<Row<Seat<'r, Md5Naming, D>>, OutOfMemory>
-    requires known { AreIn known.now.registry.now known.now.findings }
+    requires same { length passes ≡ length doors }
+    requires knows { All (Knows hash_of known.now.registry.now (map entry_of known.now.findings)) passes }
     requires new { All (λ door. IsNewDoor (D.held door) (D.out door) (D.faults door)) doors }
     ensures count { IfOk result (λ seats. length seats ≡ length doors) }
     ensures ready { IfOk result (All (λ seat. IsReady hash_of known.now.registry.now (map entry_of known.now.findings) seat.pass (D.held seat.door) (D.out seat.door) (D.faults seat.door))) }
 {
+    let mut passes = passes;
     let mut doors = doors;
     let mut seats = Row::new(alloc);
     'doors: while let Some(door) = doors.pop() {
-        let seat = seat_at(alloc, known, door)?;
-        seats.push(seat)?;
+        let pass = passes.pop().unwrap();
+        seats.push(Seat { door, pass })?;
     }
     Ok(seats)
 }
@@ -84,7 +89,8 @@ fn doors_of<D: Door>(
     Ok(doors)
 }
 
-/// Serves at these doors so many turns each, the workers beside each other, and gives the doors back.
+/// Serves at these doors so many turns each, the workers beside each other, and gives the doors back, unless memory is wanting for a list of
+/// them.
 fn serve_doors<R: Threads + Sync, D: Door>(
     rt: &R,
     alloc: Global,
@@ -99,7 +105,10 @@ fn serve_doors<R: Threads + Sync, D: Door>(
     ensures held { IfOk result (λ r. OnOk r.1 (AreHeld hash_of (map entry_of known.now.findings) (length doors) turns (map (λ door. D.held door) r.0))) }
     ensures fault { IfOk result (λ r. IsErrOf r.1 DoorFault → any_fault (map (λ door. D.faults door) r.0) ≡ true) }
 {
-    let mut seats = seats_at(alloc, known, doors)?;
+    let Ok(passes) = passes_of(alloc, known, doors.len()) else {
+        return Ok((doors, Err(ServeFault::OutOfMemory)));
+    };
+    let mut seats = seats_at(alloc, known, passes, doors)?;
     let served = serve_workers(rt, alloc, known.registry, &mut seats, turns, &NoGate);
     let doors = doors_of(alloc, seats)?;
     Ok((doors, served))
