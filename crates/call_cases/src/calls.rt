@@ -1,6 +1,7 @@
 //! The calls on types and values, and their answers in print.
 use crate::answers::Answer;
 use crate::cases::Case;
+use crate::parts::{hashed, headed, noted, put_each, referred, settled};
 use crate::samples::{body_read, sample_again, sample_read, told};
 use crate::trouble::Trouble;
 use crate::values::{given_value, json_of, pairs_of, string_of, type_of, types_of, value_of};
@@ -44,6 +45,12 @@ pub fn answer(alloc: Global, call: &str, case: &Case<'_>) -> Result<Answer, Trou
         "encode" => body_written(alloc, words, case),
         "faults" => sample_faults(alloc, words, case),
         "size" => text_size(alloc, words, case),
+        "hash" => hashed(alloc, words),
+        "settle" => settled(alloc, words, case),
+        "note" => noted(alloc, words),
+        "references" => referred(alloc, words),
+        "head" => headed(alloc, words),
+        "put" => put_each(alloc, words, case),
         _ => Err(Trouble::Words),
     }
 }

@@ -5,6 +5,7 @@
 mod answers;
 mod calls;
 mod cases;
+mod parts;
 mod samples;
 mod trouble;
 mod values;

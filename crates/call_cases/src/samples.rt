@@ -46,7 +46,7 @@ fn answer_of(
 }
 
 /// The octets of hexadecimal digits, between which blanks may stand.
-fn octets_of(alloc: Global, text: &str) -> Result<Vec<u8>, Trouble> {
+pub fn octets_of(alloc: Global, text: &str) -> Result<Vec<u8>, Trouble> {
     let mut digits = String::new(alloc);
     for word in text.split_whitespace() {
         digits.push_str(word)?;
