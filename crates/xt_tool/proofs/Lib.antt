@@ -1,3 +1,5 @@
 pub mod Headlines
 pub mod Tops
 pub mod NetEnds
+pub mod Depths
+pub mod Complete

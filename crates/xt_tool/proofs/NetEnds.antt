@@ -1,5 +1,5 @@
 -- How the top call tells how a run over a net ended.
-use Rattle.std.proofs.Common.{◌≡◌, ℕ, List, ◌++◌, inl, inr, refl, sym, ap, ◌∙◌, subst, Result, Ok, Err, Some, None}
+use Rattle.std.proofs.Common.{◌≡◌, ℕ, List, inl, inr, refl, sym, ap, ◌∙◌, subst, Result, Ok, Err, Some, None}
 use Rattle.std.specs.declared.option.Option.{Option}
 use Rattle.std.specs.Io.KnownBytes.{Appends}
 use Rattle.xt_io.specs.Outside.{Rose, AppendsPrefix}
@@ -8,7 +8,7 @@ use Rattle.tool_runs.specs.declared.output.ending.Cause.TheVariants as causes
 use Rattle.tool_runs.specs.declared.output.ending.Ending.{Ending}
 use Rattle.tool_runs.specs.declared.output.ending.Ending.TheVariants as endings
 use Rattle.tool_runs.specs.declared.output.halt.Halt.TheVariants as halts
-use Rattle.tool_runs.specs.output.Outputs.{Output, Refusal, refused}
+use Rattle.tool_runs.specs.output.Outputs.{Output, Refusal}
 use Rattle.type_object.specs.Names.{hash_of}
 use Rattle.type_object.specs.Pools.{Texts}
 use Rattle.type_trees.specs.declared.types.HashId.{HashId}
@@ -20,10 +20,10 @@ use Rattle.type_mirror.specs.declared.told.told.PushFault.{PushFault}
 use Rattle.type_mirror.specs.declared.told.told.PushFault.TheVariants as push
 use Rattle.tool_words.specs.Words as words
 use Rattle.tool_words.specs.Words.{NetCommand}
-use Rattle.tool_nets.specs.Nets.{Net, Fails, EndsIn}
+use Rattle.tool_nets.specs.Nets.{Net, EndsIn}
 use Rattle.tool_nets.specs.Opened.{AllowedOf, IsFrontCause}
 use Rattle.tool_nets.specs.clients.Lines.{fetch_output, push_output}
-use Rattle.tool_nets.specs.clients.Clients.{FetchSaid, PushSaid, FetchAllows, PushAllows, objects_in}
+use Rattle.tool_nets.specs.clients.Clients.{FetchAllows, PushAllows, objects_in}
 use Rattle.tool_nets.specs.serving.Serving.{ServeAllows}
 use Rattle.xt_tool.specs.declared.status.Status.{Status}
 use Rattle.xt_tool.specs.declared.status.Status.TheVariants as statuses

@@ -1,4 +1,5 @@
 pub mod Output
 pub mod Statuses
 pub mod Headline
+pub mod Completeness
 pub mod Nets

@@ -1,5 +1,7 @@
 ghost use Rattle.xt_tool.specs.Headline as law;
+ghost use Rattle.xt_tool.specs.Completeness.{Completeness};
 
+use tool_instances::keeps_last;
 use tool_verdicts::named_are_valid;
 use type_rules::shape_keeps_rules;
 
@@ -21,4 +23,16 @@ pub fn refused()
     shape_keeps_rules();
     named_are_valid();
     shape_laws::exactly_one();
+}
+
+/// With nothing wrong in what it is given, a command that asks nothing over a net ends as done; or with No, exactly where the reader's type isn't
+/// assignable from the writer's; or with Limit, exactly where there is a key too many.
+pub fn complete()
+    ensures { Completeness }
+{
+    shape_keeps_rules();
+    named_are_valid();
+    shape_laws::judged();
+    shape_laws::exactly_one();
+    keeps_last();
 }

@@ -3,16 +3,19 @@ ghost use Rattle.std.specs.Io.KnownBytes.{IsAtEnd};
 ghost use Rattle.xt_io.specs.Outside.{Rose};
 ghost use Rattle.tool_nets.specs.Nets.{net_of};
 ghost use Rattle.tool_words.specs.Words.{command_of, net_command_of};
+ghost use Rattle.tool_instances.specs.Laws.{KeepsLast};
+ghost use Rattle.xt_tool.specs.Completeness.{Completeness};
 ghost use Rattle.xt_tool.specs.Headline.{Headline, Refused};
 ghost use Rattle.xt_tool.specs.Nets.{AnswersIfNet, ReadsInput};
 ghost use Rattle.xt_tool.specs.Statuses.{AnswersAlone};
 
 use crate::answering::answer_alone;
-use crate::laws::{headline, refused};
+use crate::laws::{complete, headline, refused};
 use crate::peers::answer_over_net;
 use crate::status::Status;
 use std::alloc::Global;
 use std::thread::Threads;
+use tool_instances::keeps_last;
 use tool_words::net_command_of;
 use xt_io::{Net, Sink, Source};
 use xt_lists::Word;
@@ -30,6 +33,10 @@ pub fn xt<R: Threads + Sync, S: Source, K: Sink, N: Net>(
     ensures headline { Headline }
     // Where they aren't, one line names the first rule that fails.
     ensures refused { Refused }
+    // With nothing wrong in its input, a command that asks nothing over the net is done; or ends with No or Limit, exactly where the law says.
+    ensures complete { Completeness }
+    // What `instances` writes of a body is, of each key, the last values.
+    ensures keeps { KeepsLast }
     // Where nothing is asked over the net and the source tells its octets, the text is the output of the words on them, whole; or a beginning
     // of it, by the status.
     ensures output { net_command_of words.now ≡ None → AnswersAlone words.now (S.left input.old) result (S.faults input.old) (S.faults input.new) (K.taken output.old) (K.taken output.new) }
@@ -44,6 +51,8 @@ pub fn xt<R: Threads + Sync, S: Source, K: Sink, N: Net>(
 {
     headline();
     refused();
+    complete();
+    keeps_last();
     match net_command_of(words) {
         Some(asked) => answer_over_net(rt, alloc, asked, input, output, net),
         None => answer_alone(alloc, words, input, output),
