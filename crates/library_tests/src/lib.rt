@@ -7,6 +7,8 @@ mod adapters;
 #[cfg(test)]
 mod bundles;
 #[cfg(test)]
+mod calls;
+#[cfg(test)]
 mod cells;
 #[cfg(test)]
 mod clashes;

@@ -1,0 +1,104 @@
+//! The calls for other languages, over octets in memory.
+use std::alloc::Global;
+use std::rt::HostRuntime;
+use xt_calls::{Answer, Reader, Types, rep_of, tell};
+use xt_shapes::Rep;
+
+// An IDL record: its kind, the length of its text, and the text.
+const FRONT: &[u8] =
+    b"\x03\0\0\0\x4amodule m { @final struct A {@key long x;}; @final struct B {string s;}; };";
+
+// A sample of m::A with 5 as its x, in XCDR2 and little-endian order.
+const FIVE: &[u8] = b"\0\x07\0\0\x05\0\0\0";
+
+fn says(answer: &Answer, status: u32, text: &[u8]) -> bool {
+    answer.status == status && answer.text.octets() == text
+}
+
+fn opened(alloc: Global) -> Option<(Types, Reader)> {
+    let types = Types::open(alloc, FRONT).ok()?;
+    let reader = Reader::open(alloc, &types, b"m::A", b"0/m::A", 2, 0).ok()?;
+    Some((types, reader))
+}
+
+#[test]
+fn a_sample_is_read_converted_and_written(rt: HostRuntime) {
+    let alloc = rt.alloc();
+    let Some((_, reader)) = opened(alloc) else {
+        panic!(rt; "nothing was opened");
+    };
+    let read = reader.read(alloc, FIVE);
+    assert!(rt; read.is_ok_and(|answer| says(&answer, 0, b"{\"x\":5}")));
+    let converted = reader.convert(alloc, Rep::Xcdr1, FIVE);
+    assert!(rt; converted.is_ok_and(|answer| says(&answer, 0, b"\0\x01\0\0\x05\0\0\0")));
+    let written = reader.write(alloc, Rep::Xcdr2, b"{\"x\":5}");
+    assert!(rt; written.is_ok_and(|answer| says(&answer, 0, FIVE)));
+}
+
+#[test]
+fn what_is_no_sample_is_refused(rt: HostRuntime) {
+    let alloc = rt.alloc();
+    let Some((_, reader)) = opened(alloc) else {
+        panic!(rt; "nothing was opened");
+    };
+    let read = reader.read(alloc, b"\0\x07\0\0\x05\0\0");
+    assert!(rt; read.is_ok_and(|answer| answer.status == 18));
+    let written = reader.write(alloc, Rep::Xcdr2, b"{\"x\":");
+    assert!(rt; written.is_ok_and(|answer| says(&answer, 10, b"syntax")));
+}
+
+#[test]
+fn a_key_is_hashed(rt: HostRuntime) {
+    let alloc = rt.alloc();
+    let Some((_, reader)) = opened(alloc) else {
+        panic!(rt; "nothing was opened");
+    };
+    let hash = b"\0\0\0\x05\0\0\0\0\0\0\0\0\0\0\0\0";
+    let hashed = reader.key_hash(alloc, FIVE);
+    assert!(rt; hashed.is_ok_and(|answer| says(&answer, 0, hash)));
+}
+
+#[test]
+fn types_are_judged_named_and_printed(rt: HostRuntime) {
+    let alloc = rt.alloc();
+    let Some((types, _)) = opened(alloc) else {
+        panic!(rt; "nothing was opened");
+    };
+    let judged = types.judge(alloc, b"m::A", b"m::A", 2, 0);
+    assert!(rt; judged.is_ok_and(|answer| says(&answer, 0, b"")));
+    assert!(rt; types.judge(alloc, b"m::A", b"m::B", 2, 0).is_err());
+    let complete = types.id_of(alloc, b"m::A");
+    assert!(rt; complete.is_ok_and(|answer| answer.text.octets().starts_with(b"f2")));
+    let minimal = types.minimal_id_of(alloc, b"m::A");
+    assert!(rt; minimal.is_ok_and(|answer| answer.text.octets().starts_with(b"f1")));
+    let a = b"module m { @final struct A { @id(0) @key long x; }; };\n";
+    let b = b"module m { @final struct B { @id(0) string s; }; };\n";
+    assert!(rt;
+        types
+            .print(alloc, b"m::A")
+            .is_ok_and(|answer| says(&answer, 0, a))
+    );
+    let all = types.print_all(alloc);
+    assert!(rt; all.is_ok_and(|answer| answer.text.octets().strip_prefix(a) == Some(b)));
+}
+
+#[test]
+fn an_answer_is_told_into_its_room(rt: HostRuntime) {
+    let alloc = rt.alloc();
+    let Some((_, reader)) = opened(alloc) else {
+        panic!(rt; "nothing was opened");
+    };
+    let mut room = [9; 8];
+    let mut needed = 0;
+    let Ok(answer) = reader.read(alloc, FIVE) else {
+        panic!(rt; "memory was wanting");
+    };
+    assert!(rt; tell(answer, &mut room, &mut needed) == 0);
+    assert!(rt; needed == 7 && room == *b"{\"x\":5}\x09");
+    let Ok(answer) = reader.read(alloc, FIVE) else {
+        panic!(rt; "memory was wanting");
+    };
+    assert!(rt; tell(answer, &mut room[..6], &mut needed) == 14);
+    assert!(rt; needed == 7 && room == *b"{\"x\":5}\x09");
+    assert!(rt; rep_of(3).is_none());
+}

@@ -1,0 +1,3 @@
+pub mod TypesValues
+pub mod ReaderValues
+pub mod Told

@@ -1,0 +1,5 @@
+pub mod SampleSays
+pub mod Ties
+pub mod Tops
+pub mod Keyed
+pub mod Texts

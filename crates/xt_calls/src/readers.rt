@@ -1,0 +1,178 @@
+ghost use Rattle.std.specs.Prelude.{◌≡◌, IfOk, Ok, Some};
+ghost use Rattle.type_trees.specs.View.{tree, val};
+ghost use Rattle.type_trees.specs.Bridge.{type_shape};
+ghost use Rattle.projection_laws.specs.Premises.{IsValid};
+ghost use Rattle.settled_parts.specs.Settling.{outcome_val};
+ghost use Rattle.xcdr_model.specs.Samples.{read_sample};
+ghost use Rattle.json_values.specs.Read.{read_as};
+ghost use Rattle.json_values.specs.declared.faults.ValueFault.TheVariants.{OutOfMemory as NoMemory};
+ghost use Rattle.tool_samples.specs.lines.Lines as lines;
+ghost use Rattle.tool_runs.specs.output.Runs.{Comes};
+ghost use Rattle.xt_calls.specs.Calls as spec;
+ghost use Rattle.xt_calls.specs.Answering.{Taken};
+ghost use Rattle.xt_calls.specs.Opened.{front};
+
+use crate::answers::{
+    Answer, DISCARDED, DONE, JSON, MALFORMED, MUST_UNDERSTAND, TOO_LARGE, refuse_words, said,
+};
+use crate::types::Types;
+use crate::words::pair_of;
+use dynamic_data::{ValueFault, from_json, to_json};
+use settled_parts::Outcome;
+use std::alloc::Global;
+use tool_runs::output::Stop;
+use tool_samples::lines::malformed_text;
+use tool_verdicts::assignable;
+use type_trees::{Value, XType};
+use xcdr_model::Why;
+use xcdr_samples::read_sample;
+use xcdr_writer::{size_of_sample, write_sample};
+use xt_io::MemSink;
+use xt_lists::OutOfMemory;
+use xt_shapes::{Order, Rep};
+use xt_wire::cursor::{DecodeFault, SliceCursor};
+
+/// A reader's type, which is assignable from a writer's, and the representation of the writer's samples.
+#[derive(Drop)]
+pub struct Reader {
+    pub(crate) rep: Rep,
+    pub(crate) ty: XType,
+    ghost valid: { IsValid ty },
+}
+
+pub(crate) fn malformed(alloc: Global, at: u64, why: Why) -> Result<Answer, OutOfMemory>
+    ensures { IfOk result (λ answer. answer ≡ spec.said 18 (lines.malformed_text (record { at = at; why = why }))) }
+{
+    let text = malformed_text(alloc, at, why)?;
+    Ok(Answer {
+        status: MALFORMED,
+        text,
+    })
+}
+
+// What a sample came to, as JSON.
+fn as_json(alloc: Global, ty: &XType, outcome: &Outcome) -> Result<Answer, OutOfMemory>
+    requires { IsValid ty.now }
+    ensures { IfOk result (λ answer. answer ≡ spec.read_answer (tree ty.now) (Ok (outcome_val outcome.now))) }
+{
+    match outcome {
+        Outcome::Sample(value) => {
+            let text = to_json(alloc, ty, value)?;
+            Ok(Answer { status: DONE, text })
+        }
+        Outcome::Discarded => said(alloc, DISCARDED, b"discarded"),
+        Outcome::MustUnderstand => said(alloc, MUST_UNDERSTAND, b"must-understand"),
+    }
+}
+
+// The sample of a value in little-endian order, or this answer where it is too large.
+fn sample_of(
+    alloc: Global,
+    status: u32,
+    text: &[u8],
+    rep: Rep,
+    ty: &XType,
+    value: &Value,
+) -> Result<Answer, OutOfMemory>
+    ensures { IfOk result (λ answer. answer ≡ spec.sample_answer status text.now rep (tree ty.now) (val value.now)) }
+{
+    match size_of_sample(rep, ty, value) {
+        None => said(alloc, status, text),
+        Some(_) => {
+            let mut sink = MemSink::new(alloc, usize::MAX, &[]);
+            match write_sample(rep, ty, value, Order::Little, &mut sink) {
+                Ok(()) => said(alloc, DONE, sink.octets()),
+                Err(_) => Err(OutOfMemory),
+            }
+        }
+    }
+}
+
+// What a sample came to, as a sample in a representation.
+fn as_sample(alloc: Global, to: Rep, ty: &XType, outcome: &Outcome) -> Result<Answer, OutOfMemory>
+    ensures { IfOk result (λ answer. answer ≡ spec.converted_answer to (tree ty.now) (Ok (outcome_val outcome.now))) }
+{
+    match outcome {
+        Outcome::Sample(value) => sample_of(alloc, TOO_LARGE, b"too-large", to, ty, value),
+        Outcome::Discarded => said(alloc, DISCARDED, b"discarded"),
+        Outcome::MustUnderstand => said(alloc, MUST_UNDERSTAND, b"must-understand"),
+    }
+}
+
+fn refuse_value(alloc: Global, fault: ValueFault) -> Result<Answer, OutOfMemory>
+    ensures answer { IfOk result (λ answer. answer ≡ spec.fault_answer fault) }
+    ensures memory { IfOk result (λ _. fault ≡ NoMemory → ⊥) }
+{
+    match fault {
+        ValueFault::NotJson => said(alloc, JSON, b"syntax"),
+        ValueFault::Wrong { path, rule } => {
+            let text = format!(in alloc; "{rule} {path}")?;
+            said(alloc, JSON, text.as_bytes())
+        }
+        ValueFault::OutOfMemory => Err(OutOfMemory),
+    }
+}
+
+impl Reader {
+    /// The reader's type that a word names, where it is assignable from the writer's that another names.
+    pub fn open(
+        alloc: Global,
+        types: &Types,
+        reader: &[u8],
+        writer: &[u8],
+        rep: u32,
+        flags: u32,
+    ) -> Result<Reader, Stop>
+        ensures comes { Comes (spec.reader_of (spec.pair_of reader.now writer.now rep flags) (front types.now)) (λ opened. tree opened.ty) result }
+        ensures rep { IfOk result (λ opened. spec.rep_of rep ≡ Some opened.rep) }
+    {
+        match pair_of(reader, writer, rep, flags) {
+            None => Err(refuse_words(alloc)),
+            Some(pair) => {
+                match assignable(alloc, &pair, types.declared.as_slice(), &types.pool) {
+                    Err(stop) => Err(stop),
+                    Ok(ty) => Ok(Reader { rep: pair.rep, ty }),
+                }
+            }
+        }
+    }
+
+    pub(crate) fn taken(&self, alloc: Global, sample: &[u8]) -> Result<Outcome, DecodeFault>
+        ensures { Taken (read_sample self.now.rep (type_shape self.now.ty) sample.now) result }
+    {
+        let mut cursor = SliceCursor::new(sample);
+        read_sample(alloc, self.rep, &self.ty, &mut cursor)
+    }
+
+    /// What the reader's type makes of a sample, as JSON.
+    pub fn read(&self, alloc: Global, sample: &[u8]) -> Result<Answer, OutOfMemory>
+        ensures { IfOk result (λ answer. answer ≡ spec.read_answer (tree self.now.ty) (read_sample self.now.rep (type_shape self.now.ty) sample.now)) }
+    {
+        match self.taken(alloc, sample) {
+            Ok(outcome) => as_json(alloc, &self.ty, &outcome),
+            Err(DecodeFault::Malformed { at, why }) => malformed(alloc, at, why),
+            Err(DecodeFault::ReadFault | DecodeFault::OutOfMemory) => Err(OutOfMemory),
+        }
+    }
+
+    /// The same, as a sample in a representation.
+    pub fn convert(&self, alloc: Global, to: Rep, sample: &[u8]) -> Result<Answer, OutOfMemory>
+        ensures { IfOk result (λ answer. answer ≡ spec.converted_answer to (tree self.now.ty) (read_sample self.now.rep (type_shape self.now.ty) sample.now)) }
+    {
+        match self.taken(alloc, sample) {
+            Ok(outcome) => as_sample(alloc, to, &self.ty, &outcome),
+            Err(DecodeFault::Malformed { at, why }) => malformed(alloc, at, why),
+            Err(DecodeFault::ReadFault | DecodeFault::OutOfMemory) => Err(OutOfMemory),
+        }
+    }
+
+    /// A value of the reader's type in JSON, as a sample in a representation.
+    pub fn write(&self, alloc: Global, to: Rep, json: &[u8]) -> Result<Answer, OutOfMemory>
+        ensures { IfOk result (λ answer. answer ≡ spec.written_answer to (tree self.now.ty) (read_as (tree self.now.ty) json.now)) }
+    {
+        match from_json(alloc, &self.ty, json) {
+            Ok(value) => sample_of(alloc, JSON, b"LARGE /", to, &self.ty, &value),
+            Err(fault) => refuse_value(alloc, fault),
+        }
+    }
+}
