@@ -60,7 +60,7 @@ if [[ $has_library ]]; then
     install -Dm644 -t "$usr/lib/$triplet" out/libxt.a out/libxt.so
     install -Dm644 -t "$usr/include" include/xt.h bindings/cpp/xt.hpp
     install -Dm644 bindings/python/ruhvelma.py "$usr/lib/python3/dist-packages/ruhvelma.py"
-    (cd bindings && git ls-files -z rust c cpp/pose.cpp python/test_ruhvelma.py | xargs -0 cp --parents -t "$doc")
+    (cd bindings && git ls-files -z rust c cpp/pose.cpp python/pose.py python/test_ruhvelma.py | xargs -0 cp --parents -t "$doc")
 fi
 {
     echo "commit $commit"
