@@ -9,7 +9,7 @@
  * doesn't, nothing is written: the call answers XT_ROOM in place of XT_OK, `needed` tells the room that it takes, and the same call may be
  * made again. A refusal has its own status, whether its text fits or not. Texts have no zero behind them.
  *
- * A call takes at most 128 KiB of stack. */
+ * A call takes at most 512 KiB of stack. */
 #ifndef XT_H
 #define XT_H
 

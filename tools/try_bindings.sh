@@ -96,7 +96,7 @@ sanitizes() {
     echo 'int main(void) { return 0; }' | "$1" -x "$2" "${sanitizers[@]}" - -o "$work/probe" 2>/dev/null && "$work/probe" 2>/dev/null
 }
 
-[[ $stack ]] || { echo "FAILED include/xt.h doesn't say how much stack a call takes"; failed=1 stack=128; }
+[[ $stack ]] || { echo "FAILED include/xt.h doesn't say how much stack a call takes"; failed=1 stack=512; }
 if has gcc; then
     try_c
     if sanitizes gcc c; then try_c_sanitized; else skip "C with sanitizers" "gcc has none"; fi

@@ -1,4 +1,4 @@
-/* How much stack a call may take: stack [KIB], 128 unless told otherwise.
+/* How much stack a call may take: stack [KIB], 512 unless told otherwise.
  *
  * The calls run in a thread with this much stack, over types with as many nodes one in another as a valid type has (16), and over texts that are
  * nested far deeper, which are refused. Where it isn't enough, the program ends by a signal. */
@@ -213,7 +213,7 @@ static void *try_all(void *nothing) {
 }
 
 int main(int count, char **words) {
-    size_t kib = count > 1 ? strtoul(words[1], NULL, 10) : 128;
+    size_t kib = count > 1 ? strtoul(words[1], NULL, 10) : 512;
     pthread_attr_t with;
     pthread_t thread;
     if (pthread_attr_init(&with) || pthread_attr_setstacksize(&with, 1024 * kib) || pthread_create(&thread, &with, try_all, NULL)) {
