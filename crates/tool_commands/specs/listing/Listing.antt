@@ -1,5 +1,5 @@
 -- What `show` and `compile` write of what the records of a front declare (this profile's own).
-use Rattle.std.specs.Prelude.{ℕ, true, false, List, [], ◌∷◌, ◌++◌, map, Option, Some, None, Result, Ok, codes}
+use Rattle.std.specs.Prelude.{◌≡◌, ℕ, Bool, true, false, ◌&&◌, List, [], ◌∷◌, ◌++◌, map, Option, Some, None, Result, Ok, codes}
 use Rattle.xt_io.specs.declared.Item.{Item}
 use Rattle.xt_io.specs.declared.Kind.TheVariants as kinds
 use Rattle.xt_io.specs.Records.{record_octets}
@@ -7,6 +7,7 @@ use Rattle.type_trees.specs.declared.types.HashId.{HashId}
 use Rattle.type_trees.specs.Ids.{id_text}
 use Rattle.type_trees.specs.Trees.{Tree}
 use Rattle.object_formats.specs.Objects as o
+use Rattle.type_object.specs.Pools.{Texts}
 use Rattle.type_resolve.specs.Adding.{all_added}
 use Rattle.type_resolve.specs.Objects.{identifier, texts}
 use Rattle.idl_types.specs.State as idl_types
@@ -64,3 +65,21 @@ object_record entry = record_octets kinds.Object entry.1
 -- Added to a pool one after another, each text comes once, at its first place.
 abbrev pub compile_records : List Item → Result (List (List ℕ)) Refusal
 compile_records records = declare 0 [] records >>= λ front. Ok (map object_record (all_added [] (all_texts front.0)).0)
+
+-- ---- where the front has texts alone
+
+abbrev pub is_text : Declared → Bool
+is_text (types ts) = true
+is_text (object id name) = false
+
+abbrev pub are_texts : List Declared → Bool
+are_texts [] = true
+are_texts (d ∷ ds) = is_text d && are_texts ds
+
+-- Of texts alone, a pool has what is compiled, in order.
+abbrev pub HasCompiled : List Declared × Texts → Type 0
+HasCompiled front = are_texts front.0 ≡ true → all_added [] (all_texts front.0) ≡ (front.1, None)
+
+-- The pool of a front does.
+abbrev pub FrontHasCompiled : Type 0
+FrontHasCompiled = (records : List Item) (front : List Declared × Texts) → declare 0 [] records ≡ Ok front → HasCompiled front

@@ -87,7 +87,33 @@ fn write_objects<K: Sink>(alloc: Global, pool: &Pool, sink: &mut K) -> Result<()
     Ok(())
 }
 
-fn compile_all<K: Sink>(alloc: Global, records: &[Declared], sink: &mut K) -> Result<(), Stop>
+fn is_text(declared: &Declared) -> bool
+    ensures { result ≡ spec.is_text (declared_view declared.now) }
+{
+    match declared {
+        Declared::Types { .. } => true,
+        Declared::Object { .. } => false,
+    }
+}
+
+fn are_texts(records: &[Declared]) -> bool
+    ensures { result ≡ spec.are_texts (map declared_view records.now) }
+{
+    for declared in records {
+        if !is_text(declared) {
+            return false;
+        }
+    }
+    true
+}
+
+/// Of texts alone, the pool of their front has what is compiled, in order.
+fn front_has_compiled()
+    ensures { spec.FrontHasCompiled }
+{}
+
+// Where objects are among the records, those of the texts go into a pool of their own.
+fn compile_texts<K: Sink>(alloc: Global, records: &[Declared], sink: &mut K) -> Result<(), Stop>
     requires { AllGood records.now }
     ensures steps { Steps Style.Records (Some (only (map spec.object_record (all_added [] (spec.all_texts (map declared_view records.now))).0))) (Some finished) result (K.taken sink.old) (K.taken sink.new) }
     ensures stops { StopsWriting (K.faults sink.old) (K.faults sink.new) result }
@@ -97,6 +123,25 @@ fn compile_all<K: Sink>(alloc: Global, records: &[Declared], sink: &mut K) -> Re
     match add_all(alloc, records, &mut pool) {
         Ok(()) => write_objects(alloc, &pool, sink),
         Err(_) => Err(Stop::Halted(Halt::OutOfMemory)),
+    }
+}
+
+fn compile_all<K: Sink>(
+    alloc: Global,
+    records: &[Declared],
+    pool: &Pool,
+    sink: &mut K,
+) -> Result<(), Stop>
+    requires good { AllGood records.now }
+    requires front { spec.HasCompiled (map declared_view records.now, pool.now) }
+    ensures steps { Steps Style.Records (Some (only (map spec.object_record (all_added [] (spec.all_texts (map declared_view records.now))).0))) (Some finished) result (K.taken sink.old) (K.taken sink.new) }
+    ensures stops { StopsWriting (K.faults sink.old) (K.faults sink.new) result }
+    ensures same { K.name sink.new ≡ K.name sink.old }
+{
+    if are_texts(records) {
+        write_objects(alloc, pool, sink)
+    } else {
+        compile_texts(alloc, records, sink)
     }
 }
 
@@ -118,9 +163,10 @@ impl Answers for Compiling {
         records: &[Item],
         sink: &mut K,
     ) -> Result<Ending, Stop> {
+        front_has_compiled();
         match declare(alloc, records) {
             Err(stop) => Err(stop),
-            Ok((declared, _)) => match compile_all(alloc, declared.as_slice(), sink) {
+            Ok((declared, pool)) => match compile_all(alloc, declared.as_slice(), &pool, sink) {
                 Err(stop) => Err(stop),
                 Ok(()) => Ok(Ending::Done),
             },
