@@ -5,6 +5,7 @@
 mod cases;
 mod escapes;
 mod faults;
+mod forms;
 mod nets;
 mod outcomes;
 mod records;

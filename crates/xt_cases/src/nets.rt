@@ -1,7 +1,7 @@
 //! The net of a case: what peers send, and which call fails.
 
 use crate::faults::list_of;
-use crate::records::hexadecimal;
+use crate::forms::Form;
 use crate::trouble::Trouble;
 use std::alloc::Global;
 use xt_io::{MemDoor, MemNet, Script, Turn};
@@ -46,7 +46,7 @@ impl Peer {
                 Err(_) => return Ok(None),
             },
         };
-        match hexadecimal(alloc, octets)? {
+        match Form::Hexadecimal.read(alloc, octets)? {
             Some(octets) => Ok(Some(Peer { octets, fails })),
             None => Ok(None),
         }

@@ -1,6 +1,7 @@
 //! What is wanted of a run, and how what came differs from it.
 
-use crate::records::{append, append_line, hexadecimal};
+use crate::forms::Form;
+use crate::records::{append, append_line};
 use crate::trouble::Trouble;
 use std::alloc::Global;
 use xt_lists::{Row, Text};
@@ -46,7 +47,7 @@ impl Outcome {
                 append(alloc, &mut self.output, word, text)
             }
             "sent" => {
-                self.sent = hexadecimal(alloc, text)?;
+                self.sent = Form::Hexadecimal.read(alloc, text)?;
                 Ok(self.sent.is_some())
             }
             "held" => self.take_held(alloc, text),
@@ -55,7 +56,7 @@ impl Outcome {
     }
 
     fn take_held(&mut self, alloc: Global, text: &str) -> Result<bool, Trouble> {
-        let Some(octets) = hexadecimal(alloc, text)? else {
+        let Some(octets) = Form::Hexadecimal.read(alloc, text)? else {
             return Ok(false);
         };
         self.held.push(octets)?;

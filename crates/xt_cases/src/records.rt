@@ -1,20 +1,10 @@
 //! The lines of a case that give records or octets.
 
-use crate::escapes::unescaped;
+use crate::forms::Form;
 use crate::trouble::Trouble;
 use std::alloc::Global;
 use xt_io::Kind;
 use xt_lists::Text;
-
-/// How a line gives octets.
-#[derive(Clone, Copy)]
-enum Form {
-    /// As they stand.
-    Plain,
-    /// As a text with escapes.
-    Escaped,
-    Hexadecimal,
-}
 
 /// What the octets of a line are made into.
 #[derive(Clone, Copy)]
@@ -43,23 +33,6 @@ fn given_by(word: &str) -> Option<(Role, Form)> {
     }
 }
 
-/// The octets that a text gives. None where it has not this form.
-fn octets_of(alloc: Global, form: Form, text: &str) -> Result<Option<Text>, Trouble> {
-    match form {
-        Form::Plain => Ok(Some(Text::from_octets(alloc, text.as_bytes())?)),
-        Form::Escaped => Ok(unescaped(alloc, text)?),
-        Form::Hexadecimal => hexadecimal(alloc, text),
-    }
-}
-
-/// The octets that are written in hexadecimal.
-pub fn hexadecimal(alloc: Global, text: &str) -> Result<Option<Text>, Trouble> {
-    match hex::decode(alloc, text) {
-        Ok(octets) => Ok(Some(Text::from_octets(alloc, octets.as_slice())?)),
-        Err(_) => Ok(None),
-    }
-}
-
 /// Appends the record that a word and a text stand for, or octets alone. False where they stand for none.
 pub fn append(alloc: Global, into: &mut Text, word: &str, text: &str) -> Result<bool, Trouble> {
     if word == "samples" {
@@ -68,7 +41,7 @@ pub fn append(alloc: Global, into: &mut Text, word: &str, text: &str) -> Result<
     let Some((role, form)) = given_by(word) else {
         return Ok(false);
     };
-    let Some(octets) = octets_of(alloc, form, text)? else {
+    let Some(octets) = form.read(alloc, text)? else {
         return Ok(false);
     };
     match role {
@@ -92,7 +65,7 @@ pub fn append_line(
     } else {
         Form::Escaped
     };
-    let Some(octets) = octets_of(alloc, form, text)? else {
+    let Some(octets) = form.read(alloc, text)? else {
         return Ok(false);
     };
     into.append(octets.octets())?;
@@ -107,7 +80,7 @@ fn append_samples(alloc: Global, into: &mut Text, text: &str) -> Result<bool, Tr
     let Ok(count) = count.parse::<u32>() else {
         return Ok(false);
     };
-    let Some(octets) = hexadecimal(alloc, octets)? else {
+    let Some(octets) = Form::Hexadecimal.read(alloc, octets)? else {
         return Ok(false);
     };
     for number in 0..count {
