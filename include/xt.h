@@ -1,9 +1,10 @@
 /* Ruhvelma for C and C++: the extensible types of DDS (DDS-XTypes 1.3), over octets in memory.
  *
  * A handle is a struct with one pointer. Begin with XT_NULL; never copy a handle, never write to it. Closing makes it null again; closing a
- * null handle does nothing, and a call on one answers XT_CLOSED. Opening into a handle first frees what it held. One handle is for one call
- * at a time, and stays on its thread. Octets cross as a pointer and a length; where the length is 0 the pointer may be anything, null too.
- * What a call writes to does not overlap what it reads.
+ * null handle does nothing, and a call on one answers XT_CLOSED. Opening into a handle first frees what it held. A handle may be moved to another
+ * place in memory, where the place that it was at is not used again. One handle is for one call at a time. A reader may go to another thread;
+ * types stay on theirs. Octets cross as a pointer and a length; where the length is 0 the pointer may be anything, null too. What a call writes to
+ * does not overlap what it reads.
  *
  * Each call that answers takes room for a text or a sample, and `needed`. Where the answer fits, it stands at the front of the room. Where it
  * doesn't, nothing is written: the call answers XT_ROOM in place of XT_OK, `needed` tells the room that it takes, and the same call may be

@@ -12,8 +12,9 @@ A refusal is an exception: Refused, or rather the class of its status, with the 
 The library is the file that the environment variable RUHVELMA_LIBRARY names, or libxt.so beside this file, or the one that the system finds. It is
 loaded by the first call.
 
-Types and readers hold memory of the library until they are closed, by `with`, by close(), or when Python drops them. One belongs to the thread that
-made it: a call on another thread is a RuntimeError, and one that is dropped on another thread keeps its memory."""
+Types and readers hold memory of the library until they are closed, by `with`, by close(), or when Python drops them. A reader may be used on any
+thread, one call at a time. Types belong to the thread that made them: a call on another one is a RuntimeError, and types that are dropped there keep
+their memory."""
 
 from __future__ import annotations
 
@@ -241,14 +242,6 @@ def answer(name: str, *arguments: Any, room: int = 512) -> tuple[int, bytes]:
         room = needed.value
 
 
-def answered(name: str, *arguments: Any, room: int = 512) -> bytes:
-    """The octets that a call answers, or its refusal."""
-    status, octets = answer(name, *arguments, room=room)
-    if status != OK:
-        raise refusal(status, octets)
-    return octets
-
-
 def octets_of(octets: bytes | bytearray | memoryview | str) -> tuple[bytes, int]:
     """Octets as two arguments; a text goes as UTF-8."""
     given = octets.encode() if isinstance(octets, str) else bytes(octets)
@@ -262,18 +255,28 @@ def record(kind: int, payload: bytes | bytearray | memoryview | str) -> bytes:
 
 
 class Held:
-    """A handle, on the thread that made it."""
+    """A handle, for one call at a time."""
 
     _closes: str
 
     def __init__(self) -> None:
         self._handle = Handle()
-        self._thread = threading.get_ident()
+        self._turn = threading.Lock()
 
     def _own(self) -> ctypes._Pointer[Handle]:
-        if threading.get_ident() != self._thread:
-            raise RuntimeError("types and readers belong to the thread that made them")
         return ctypes.pointer(self._handle)
+
+    def _answer(self, name: str, *arguments: Any) -> tuple[int, bytes]:
+        """The status and the octets that a call on the handle answers, in its turn."""
+        with self._turn:
+            return answer(name, self._own(), *arguments)
+
+    def _answered(self, name: str, *arguments: Any) -> bytes:
+        """The octets that a call on the handle answers, or its refusal."""
+        status, octets = self._answer(name, *arguments)
+        if status != OK:
+            raise refusal(status, octets)
+        return octets
 
     @property
     def closed(self) -> bool:
@@ -282,16 +285,13 @@ class Held:
 
     def close(self) -> None:
         """Frees what it holds. A second time does nothing."""
-        handle = self._own()
-        if not self.closed:
-            getattr(library(), self._closes)(handle)
+        with self._turn:
+            handle = self._own()
+            if not self.closed:
+                getattr(library(), self._closes)(handle)
 
     def __exit__(self, kind: type[BaseException] | None, error: BaseException | None, at: TracebackType | None) -> None:
         self.close()
-
-    def __del__(self) -> None:
-        if getattr(self, "_thread", None) == threading.get_ident():
-            self.close()
 
 
 class Types(Held):
@@ -304,11 +304,21 @@ class Types(Held):
 
     def __init__(self, *texts: str | bytes, objects: Iterable[bytes] = (), bundle: bytes = b"") -> None:
         super().__init__()
+        self._thread = threading.get_ident()
         records = [record(IDL, text) for text in texts] + [record(OBJECT, octets) for octets in objects]
-        answered("xt_types_open", self._own(), *octets_of(b"".join(records) + bundle))
+        self._answered("xt_types_open", *octets_of(b"".join(records) + bundle))
+
+    def _own(self) -> ctypes._Pointer[Handle]:
+        if threading.get_ident() != self._thread:
+            raise RuntimeError("types belong to the thread that made them")
+        return super()._own()
 
     def __enter__(self) -> Types:
         return self
+
+    def __del__(self) -> None:
+        if getattr(self, "_thread", None) == threading.get_ident():
+            self.close()
 
     def reader(self, reads: str, writes: str | None = None, rep: int = Rep.XCDR2, policy: int = Policy.STANDARD) -> Reader:
         """A reader of the type `reads`, of samples of the type `writes`, which is the same one unless it is named."""
@@ -316,7 +326,7 @@ class Types(Held):
 
     def judge(self, reads: str, writes: str, rep: int = Rep.XCDR2, policy: int = Policy.STANDARD) -> Verdict:
         """Whether the type `reads` is assignable from the type `writes`."""
-        status, octets = answer("xt_judge", self._own(), *octets_of(reads), *octets_of(writes), rep, policy)
+        status, octets = self._answer("xt_judge", *octets_of(reads), *octets_of(writes), rep, policy)
         if status == OK:
             return Verdict(True)
         if status != NO:
@@ -326,17 +336,17 @@ class Types(Held):
 
     def type_id(self, word: str) -> str:
         """The identifier of a type's complete TypeObject, or of the object that the word names, in 30 hexadecimal digits."""
-        return answered("xt_type_id", self._own(), *octets_of(word)).decode()
+        return self._answered("xt_type_id", *octets_of(word)).decode()
 
     def minimal_id(self, word: str) -> str:
         """The identifier of a type's minimal TypeObject, in 30 hexadecimal digits."""
-        return answered("xt_minimal_id", self._own(), *octets_of(word)).decode()
+        return self._answered("xt_minimal_id", *octets_of(word)).decode()
 
     def idl(self, word: str | None = None) -> str:
         """The IDL text of a type, a line; without a word that of all types that the texts declare, a line for each."""
         if word is None:
-            return answered("xt_print_all", self._own()).decode()
-        return answered("xt_print", self._own(), *octets_of(word)).decode()
+            return self._answered("xt_print_all").decode()
+        return self._answered("xt_print", *octets_of(word)).decode()
 
 
 class Reader(Held):
@@ -347,14 +357,19 @@ class Reader(Held):
     def __init__(self, types: Types, reads: str, writes: str | None = None, rep: int = Rep.XCDR2, policy: int = Policy.STANDARD) -> None:
         super().__init__()
         words = (*octets_of(reads), *octets_of(reads if writes is None else writes))
-        answered("xt_reader_open", self._own(), types._own(), *words, rep, policy)
+        with types._turn:
+            self._answered("xt_reader_open", types._own(), *words, rep, policy)
 
     def __enter__(self) -> Reader:
         return self
 
+    def __del__(self) -> None:
+        if hasattr(self, "_turn"):
+            self.close()
+
     def read_text(self, sample: bytes) -> str:
         """A sample as the text of its JSON."""
-        return answered("xt_read", self._own(), *octets_of(sample), 0).decode()
+        return self._answered("xt_read", *octets_of(sample), 0).decode()
 
     def read(self, sample: bytes, loads: Callable[[str], Any] = json.loads) -> Any:
         """A sample as a value of Python: what `loads` makes of its JSON."""
@@ -362,7 +377,7 @@ class Reader(Held):
 
     def write_text(self, text: str | bytes, rep: int = Rep.XCDR2) -> bytes:
         """A value, given as the text of its JSON, as a sample in little-endian order."""
-        return answered("xt_write", self._own(), *octets_of(text), rep, 0)
+        return self._answered("xt_write", *octets_of(text), rep, 0)
 
     def write(self, value: Any, rep: int = Rep.XCDR2, dumps: Callable[[Any], str] = json.dumps) -> bytes:
         """A value of Python, of which `dumps` makes JSON, as a sample in little-endian order."""
@@ -370,8 +385,8 @@ class Reader(Held):
 
     def convert(self, sample: bytes, rep: int) -> bytes:
         """A sample as one of the reader's type in a representation, in little-endian order."""
-        return answered("xt_convert", self._own(), *octets_of(sample), rep)
+        return self._answered("xt_convert", *octets_of(sample), rep)
 
     def key_hash(self, sample: bytes) -> bytes:
         """The hash of the key of a sample's value, as the reader's type sees it: 16 octets."""
-        return answered("xt_key_hash", self._own(), *octets_of(sample))
+        return self._answered("xt_key_hash", *octets_of(sample))

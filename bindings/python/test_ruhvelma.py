@@ -263,14 +263,20 @@ class OfHandles(TypesCase):
                 gc.collect()
         self.assertEqual(len(closed), 2)
 
-    def test_another_thread(self):
-        reader = self.reader("geo::Pose")
+    def test_types_on_another_thread(self):
         with concurrent.futures.ThreadPoolExecutor(1) as pool:
-            for call in (lambda: reader.read(SAMPLE), reader.close, self.types.idl):
+            for call in (self.types.idl, self.types.close, lambda: self.types.reader("geo::Pose")):
                 with self.assertRaises(RuntimeError):
                     pool.submit(call).result()
             self.assertEqual(pool.submit(lambda: Types(ONE).reader("geo::Pose").read(SAMPLE)).result(), VALUE)
-        self.assertEqual(reader.read(SAMPLE), VALUE)
+        self.assertFalse(self.types.closed)
+
+    def test_a_reader_on_other_threads(self):
+        reader = self.reader("geo::Pose")
+        with concurrent.futures.ThreadPoolExecutor(4) as pool:
+            self.assertTrue(all(value == VALUE for value in pool.map(reader.read, [SAMPLE] * 2000)))
+            pool.submit(reader.close).result()
+        self.assertTrue(reader.closed)
 
     def test_threads_with_readers_of_their_own(self):
         def reads(_):

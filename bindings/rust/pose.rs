@@ -4,6 +4,7 @@
 mod ruhvelma;
 
 use ruhvelma::{policy::STANDARD, Bundle, Reader, Refused, Rep, Types, Verdict};
+use std::thread;
 
 /// Three versions of a type. The second appends a member; the third has wider numbers.
 const VERSIONS: [&str; 3] = [
@@ -54,8 +55,13 @@ fn show_types(types: &Types) -> Result<(), Refused> {
     Ok(())
 }
 
-fn show_newer(first: &Reader, second: &Reader) -> Result<(), Refused> {
-    println!("read by the first: {}", first.read(&second.write(NEWER, Rep::Xcdr2)?)?);
+/// A sample that a reader on another thread writes.
+fn written_elsewhere(reader: Reader, json: &'static str) -> Result<Vec<u8>, Refused> {
+    thread::spawn(move || reader.write(json, Rep::Xcdr2)).join().expect("the thread ends by itself")
+}
+
+fn show_newer(first: &Reader, second: Reader) -> Result<(), Refused> {
+    println!("read by the first: {}", first.read(&written_elsewhere(second, NEWER)?)?);
     show_refusal("a text for a number", first.write(r#"{"vehicle":"rover-7","east":"far","north":-300}"#, Rep::Xcdr2));
     show_refusal("no JSON", first.write("{", Rep::Xcdr2));
     Ok(())
@@ -78,7 +84,7 @@ fn main() -> Result<(), Refused> {
     let second = open_reader(&types, "1/geo::Pose", "0/geo::Pose")?;
     drop(types);
     show_older(&first, &second)?;
-    show_newer(&first, &second)?;
+    show_newer(&first, second)?;
     first.close();
     show_refusal("a closed reader", first.read(&[]));
     Ok(())

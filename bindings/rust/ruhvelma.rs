@@ -2,7 +2,7 @@
 //!
 //! It needs no other crate: put the file beside yours, write `mod ruhvelma;`, and link with `-L FOLDER-OF-LIBXT -l static=xt`.
 //!
-//! Types and readers are closed where they are dropped. They are neither `Send` nor `Sync`, as a handle stays on its thread.
+//! Types and readers are closed where they are dropped. A reader is `Send`; types stay on their thread, and neither is `Sync`.
 #![allow(dead_code)]
 
 use std::cell::UnsafeCell;
@@ -260,6 +260,9 @@ impl Types {
 
 /// A reader of samples, as its own type sees them. The types may be dropped before it.
 pub struct Reader(Handle);
+
+// SAFETY: a reader's handle may go to another thread (`include/xt.h`).
+unsafe impl Send for Reader {}
 
 impl Reader {
     /// A reader of the type `reads`, of samples of the type `writes` in a representation.
