@@ -1,5 +1,5 @@
 -- What the words come to that peers have a say in (this profile's own).
-use Rattle.std.specs.Prelude.{◌≡◌, ℕ, ◌⊎◌, List, Option, Some, None, IfSome, codes}
+use Rattle.std.specs.Prelude.{◌≡◌, ℕ, ◌⊎◌, List, Option, Some, None, IfSome, IsSome, codes}
 use Rattle.std.specs.Io.KnownBytes.{Appends}
 use Rattle.xt_io.specs.Outside.{AppendsPrefix, Rose}
 use Rattle.type_object.specs.Names.{hash_of}
@@ -13,7 +13,7 @@ use Rattle.tool_nets.specs.clients.Clients.{FetchAllows, PushAllows, objects_in}
 use Rattle.tool_nets.specs.serving.Serving.{ServeAllows}
 use Rattle.xt_tool.specs.declared.status.Status.{Status}
 use Rattle.xt_tool.specs.declared.status.Status.TheVariants.{Done, No, Words, Bundle, ReadFault, WriteFault, OutOfMemory, Types, NoName, NetFault, Json, Fetch, Limit}
-use Rattle.xt_tool.specs.Output.{TakesInput}
+use Rattle.xt_tool.specs.Output.{TakesInput, unread_output}
 use Rattle.xt_tool.specs.Statuses.{Writes}
 
 -- the outputs that a command may write, by the octets of its input where they are told, and by the net behind it
@@ -27,6 +27,17 @@ abbrev pub ReadsBundle : NetCommand → Type 0
 ReadsBundle (serve to workers turns) = Unit {0}
 ReadsBundle (fetch to id) = ⊥
 ReadsBundle (mirror to) = Unit {0}
+
+-- so that its input is left as it was
+abbrev pub LeavesBundle : NetCommand → Type 0
+LeavesBundle (serve to workers turns) = ⊥
+LeavesBundle (fetch to id) = Unit {0}
+LeavesBundle (mirror to) = ⊥
+
+-- Words that are no command, and those of `make` and `fetch`, leave it.
+abbrev pub InputIsLeft : Option NetCommand → Option Command → Type 0
+InputIsLeft (Some asked) command = LeavesBundle asked
+InputIsLeft None command = IsSome (unread_output command)
 
 -- whether the words ask a command that reads its input
 abbrev pub ReadsInput : Option NetCommand → Option Command → Type 0

@@ -58,6 +58,26 @@ TakesInput (keep r rep) = Unit {0}
 TakesInput (replay r) = Unit {0}
 TakesInput (compare rep policy) = Unit {0}
 
+-- what `make` writes whatever its input is
+abbrev pub unread_command : Command → Option Output
+unread_command (make seed count) = Some (made seed count)
+unread_command compile = None
+unread_command (judge pair) = None
+unread_command (read pair) = None
+unread_command (write r rep) = None
+unread_command (convert pair to) = None
+unread_command show = None
+unread_command (wrap kind) = None
+unread_command (instances pair depth) = None
+unread_command (keep r rep) = None
+unread_command (replay r) = None
+unread_command (compare rep policy) = None
+
+-- the same of words that are no command
+abbrev pub unread_output : Option Command → Option Output
+unread_output None = Some bad_words
+unread_output (Some command) = unread_command command
+
 -- ---- the last line where the source fails: a line, or a Note where records are written
 
 abbrev pub style_of_command : Command → Style

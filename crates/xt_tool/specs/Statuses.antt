@@ -1,13 +1,15 @@
 -- How a run ends, as the program's status, and what was written then (this profile's own).
-use Rattle.std.specs.Prelude.{◌≡◌, ℕ, ◌⊎◌, List, Option, IfSome, codes}
+use Rattle.std.specs.Prelude.{◌≡◌, ℕ, ◌⊎◌, List, [], Option, IfSome, IsErrOf, Result, codes}
 use Rattle.std.specs.Io.KnownBytes.{Appends}
 use Rattle.xt_io.specs.Outside.{AppendsPrefix, Rose}
 use Rattle.tool_runs.specs.declared.output.ending.Cause.{Cause}
 use Rattle.tool_runs.specs.declared.output.ending.Cause.TheVariants as causes
 use Rattle.tool_runs.specs.declared.output.ending.Ending.{Ending}
 use Rattle.tool_runs.specs.declared.output.ending.Ending.TheVariants as endings
+use Rattle.tool_runs.specs.declared.output.halt.Halt.{Halt}
+use Rattle.tool_runs.specs.declared.output.halt.Halt.TheVariants as halts
 use Rattle.tool_runs.specs.output.Outputs.{Output, last_piece, text_of}
-use Rattle.tool_runs.specs.output.Runs.{CutPieces, WrotePieces}
+use Rattle.tool_runs.specs.output.Runs.{CutPieces, Ends, WrotePieces}
 use Rattle.xt_tool.specs.Output.{output_of, style_of}
 use Rattle.xt_tool.specs.declared.status.Status.{Status}
 use Rattle.xt_tool.specs.declared.status.Status.TheVariants.{Done, No, Words, Bundle, ReadFault, WriteFault, OutOfMemory, Types, NoName, NetFault, Json, Fetch, Limit}
@@ -48,6 +50,14 @@ Writes output last NetFault SourceRose old new = Whole output NetFault old new
 Writes output last Json SourceRose old new = Whole output Json old new
 Writes output last Fetch SourceRose old new = Whole output Fetch old new
 Writes output last Limit SourceRose old new = Whole output Limit old new
+
+-- How a run ended that reads nothing, and what it wrote.
+abbrev pub EndsUnread : Option Output → Result Ending Halt → Option (List ℕ) → Option (List ℕ) → Type 0
+EndsUnread output result old new = IfSome output (λ o. Ends o result old new × (IsErrOf result halts.ReadFault → ⊥))
+
+-- The same by the status. The source has no part in it.
+abbrev pub WritesUnread : Option Output → Status → Option (List ℕ) → Option (List ℕ) → Type 0
+WritesUnread output status old new = IfSome output (λ o. Writes o [] status ⊥ old new × (status ≡ ReadFault → ⊥))
 
 -- What is written of words that ask nothing over a net, and its status, where the source tells its octets
 -- and its count of faults was and is these.

@@ -1,13 +1,13 @@
 //! Commands whose output their words and their input decide.
-ghost use Rattle.std.specs.Prelude.{◌≡◌, IfSome, codes};
+ghost use Rattle.std.specs.Prelude.{◌≡◌, IfSome, IsSome, codes};
 ghost use Rattle.std.specs.Option.{option_map};
 ghost use Rattle.std.specs.Io.KnownBytes.{IsAtEnd};
 ghost use Rattle.xt_io.specs.Outside.{Rose};
 ghost use Rattle.tool_runs.specs.output.Outputs.{last_piece};
 ghost use Rattle.tool_words.specs.View.{command_view};
 ghost use Rattle.tool_words.specs.Words as spec;
-ghost use Rattle.xt_tool.specs.Output.{TakesInput, style_asked};
-ghost use Rattle.xt_tool.specs.Statuses.{AnswersAlone};
+ghost use Rattle.xt_tool.specs.Output.{TakesInput, style_asked, unread_output};
+ghost use Rattle.xt_tool.specs.Statuses.{AnswersAlone, WritesUnread};
 
 use crate::run::run;
 use crate::status::{Status, status_of};
@@ -57,6 +57,8 @@ pub(crate) fn answer_alone<S: Source, K: Sink>(
 ) -> Status
     ensures output { AnswersAlone words.now (S.left input.old) result (S.faults input.old) (S.faults input.new) (K.taken output.old) (K.taken output.new) }
     ensures ended { result ≡ Status.Done → IfSome (spec.command_of words.now) TakesInput → IsAtEnd (S.left input.new) }
+    ensures unread { WritesUnread (unread_output (spec.command_of words.now)) result (K.taken output.old) (K.taken output.new) }
+    ensures left { IsSome (unread_output (spec.command_of words.now)) → (S.left input.new ≡ S.left input.old) × (S.faults input.new ≡ S.faults input.old) }
     ensures read { result ≡ Status.ReadFault → Rose (S.faults input.old) (S.faults input.new) }
     ensures write { result ≡ Status.WriteFault → Rose (K.faults output.old) (K.faults output.new) }
 {

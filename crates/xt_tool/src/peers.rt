@@ -6,7 +6,7 @@ ghost use Rattle.tool_runs.specs.output.Runs.{Halts};
 ghost use Rattle.tool_nets.specs.Nets.{EndsIn, net_of};
 ghost use Rattle.tool_words.specs.View.{net_view};
 ghost use Rattle.xt_tool.specs.Nets as spec;
-ghost use Rattle.xt_tool.specs.Nets.{Allowed, AnswersOverNet, ReadsBundle};
+ghost use Rattle.xt_tool.specs.Nets.{Allowed, AnswersOverNet, LeavesBundle, ReadsBundle};
 
 use crate::answering::read_fault;
 use crate::status::{Status, status_of};
@@ -38,6 +38,7 @@ fn run_net<R: Threads + Sync, S: Source, K: Sink, N: Net>(
 ) -> Result<Ending, Halt>
     ensures output { EndsIn (Allowed (net_view asked.entry) (S.left input.old) (net_of (N.faults net.old) (N.faults net.new) (N.address net.new) (N.heard net.new) (N.held net.new))) result (K.taken output.old) (K.taken output.new) }
     ensures ended { result ≡ Ok Ending.Done → ReadsBundle (net_view asked.entry) → IsAtEnd (S.left input.new) }
+    ensures left { LeavesBundle (net_view asked.entry) → (S.left input.new ≡ S.left input.old) × (S.faults input.new ≡ S.faults input.old) }
     ensures halts { Halts (S.faults input.old) (S.faults input.new) (K.faults output.old) (K.faults output.new) result }
     ensures same { K.name output.new ≡ K.name output.old }
 {
@@ -70,6 +71,7 @@ pub(crate) fn answer_over_net<R: Threads + Sync, S: Source, K: Sink, N: Net>(
     ensures net { AnswersOverNet (net_view asked.entry) (S.left input.old) (net_of (N.faults net.old) (N.faults net.new) (N.address net.new) (N.heard net.new) (N.held net.new)) result (S.faults input.old) (S.faults input.new) (K.taken output.old) (K.taken output.new) }
     ensures net_fault { result ≡ Status.NetFault → Rose (N.faults net.old) (N.faults net.new) }
     ensures ended { result ≡ Status.Done → ReadsBundle (net_view asked.entry) → IsAtEnd (S.left input.new) }
+    ensures left { LeavesBundle (net_view asked.entry) → (S.left input.new ≡ S.left input.old) × (S.faults input.new ≡ S.faults input.old) }
     ensures read { result ≡ Status.ReadFault → Rose (S.faults input.old) (S.faults input.new) }
     ensures write { result ≡ Status.WriteFault → Rose (K.faults output.old) (K.faults output.new) }
 {

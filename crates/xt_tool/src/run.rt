@@ -1,9 +1,10 @@
-ghost use Rattle.std.specs.Prelude.{◌≡◌, IfSome, Ok};
+ghost use Rattle.std.specs.Prelude.{◌≡◌, IfSome, IsSome, Ok};
 ghost use Rattle.std.specs.Option.{option_map};
 ghost use Rattle.std.specs.Io.KnownBytes.{IsAtEnd};
 ghost use Rattle.tool_runs.specs.output.Runs.{Ends, Halts, HaltsWriting, Writes};
 ghost use Rattle.tool_words.specs.View.{command_view};
-ghost use Rattle.xt_tool.specs.Output.{asked, bad_words, of_command, TakesInput};
+ghost use Rattle.xt_tool.specs.Output.{asked, bad_words, of_command, unread_command, unread_output, TakesInput};
+ghost use Rattle.xt_tool.specs.Statuses.{EndsUnread};
 
 use std::alloc::Global;
 use tool_commands::listing::{Compiling, Showing};
@@ -40,6 +41,8 @@ fn run_command<S: Source, K: Sink>(
 ) -> Result<Ending, Halt>
     ensures output { Writes (option_map (of_command (command_view command.entry)) (S.left input.old)) result (K.taken output.old) (K.taken output.new) }
     ensures ended { result ≡ Ok Ending.Done → TakesInput (command_view command.entry) → IsAtEnd (S.left input.new) }
+    ensures unread { EndsUnread (unread_command (command_view command.entry)) result (K.taken output.old) (K.taken output.new) }
+    ensures left { IsSome (unread_command (command_view command.entry)) → (S.left input.new ≡ S.left input.old) × (S.faults input.new ≡ S.faults input.old) }
     ensures halts { Halts (S.faults input.old) (S.faults input.new) (K.faults output.old) (K.faults output.new) result }
     ensures same { K.name output.new ≡ K.name output.old }
 {
@@ -79,6 +82,8 @@ pub fn run<S: Source, K: Sink>(
 ) -> Result<Ending, Halt>
     ensures output { Writes (option_map (asked (option_map command_view command.entry)) (S.left input.old)) result (K.taken output.old) (K.taken output.new) }
     ensures ended { result ≡ Ok Ending.Done → IfSome (option_map command_view command.entry) TakesInput → IsAtEnd (S.left input.new) }
+    ensures unread { EndsUnread (unread_output (option_map command_view command.entry)) result (K.taken output.old) (K.taken output.new) }
+    ensures left { IsSome (unread_output (option_map command_view command.entry)) → (S.left input.new ≡ S.left input.old) × (S.faults input.new ≡ S.faults input.old) }
     ensures halts { Halts (S.faults input.old) (S.faults input.new) (K.faults output.old) (K.faults output.new) result }
     ensures same { K.name output.new ≡ K.name output.old }
 {

@@ -6,8 +6,9 @@ ghost use Rattle.tool_words.specs.Words.{command_of, net_command_of};
 ghost use Rattle.tool_instances.specs.Laws.{KeepsLast};
 ghost use Rattle.xt_tool.specs.Completeness.{Completeness};
 ghost use Rattle.xt_tool.specs.Headline.{Headline, Refused};
-ghost use Rattle.xt_tool.specs.Nets.{AnswersIfNet, ReadsInput};
-ghost use Rattle.xt_tool.specs.Statuses.{AnswersAlone};
+ghost use Rattle.xt_tool.specs.Nets.{AnswersIfNet, InputIsLeft, ReadsInput};
+ghost use Rattle.xt_tool.specs.Output.{unread_output};
+ghost use Rattle.xt_tool.specs.Statuses.{AnswersAlone, WritesUnread};
 
 use crate::answering::answer_alone;
 use crate::laws::{complete, headline, refused};
@@ -44,6 +45,10 @@ pub fn xt<R: Threads + Sync, S: Source, K: Sink, N: Net>(
     ensures net { AnswersIfNet words.now (S.left input.old) (net_of (N.faults net.old) (N.faults net.new) (N.address net.new) (N.heard net.new) (N.held net.new)) result (S.faults input.old) (S.faults input.new) (K.taken output.old) (K.taken output.new) }
     // A run that is done and takes input read it to the end.
     ensures ended { result ≡ Status.Done → ReadsInput (net_command_of words.now) (command_of words.now) → IsAtEnd (S.left input.new) }
+    // What words that are no command and those of `make` write, and their statuses, are the same whatever the source tells.
+    ensures unread { net_command_of words.now ≡ None → WritesUnread (unread_output (command_of words.now)) result (K.taken output.old) (K.taken output.new) }
+    // Words that are no command, and those of `make` and `fetch`, leave the input as it was.
+    ensures left { InputIsLeft (net_command_of words.now) (command_of words.now) → (S.left input.new ≡ S.left input.old) × (S.faults input.new ≡ S.faults input.old) }
     // A fault is answered only where the count rose.
     ensures read { result ≡ Status.ReadFault → Rose (S.faults input.old) (S.faults input.new) }
     ensures write { result ≡ Status.WriteFault → Rose (K.faults output.old) (K.faults output.new) }
