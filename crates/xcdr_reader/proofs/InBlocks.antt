@@ -236,7 +236,7 @@ size_some prims.Char8 = omega arith
 -- a cursor that stays where it is
 pub stay : {f k : Order → Spot → Reading Part} {a b c : Standing} → Ahead f k a b → Stayed b c → Ahead f k a c
 stay {f} {k} {a} {b} {c} u s = record {
-  within = within_trans u.within s.within;
+  within = within_trans u.within s.within (omega (arith, s.place));
   later = omega (arith, u.later, s.place);
   inside = λ h. omega (arith, u.inside h, s.place);
   told = λ xs e.

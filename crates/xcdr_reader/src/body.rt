@@ -15,6 +15,7 @@ use std::alloc::Global;
 use type_rules::shape_keeps_rules;
 use type_trees::XType;
 use xcdr_model::Why;
+use xcdr_steps::again::{Peeking, Rereading};
 use xt_shapes::Rep;
 use xt_wire::cursor::{Cursor, DecodeFault};
 
@@ -59,6 +60,23 @@ fn end_value<C: Cursor>(cursor: &C, rep: Rep, reader: &XType) -> Result<(), Deco
     }
 }
 
+// Reads one value with a cursor that gives octets again.
+fn read_value<C: Peeking>(
+    alloc: Global,
+    rep: Rep,
+    reader: &XType,
+    cursor: &mut C,
+) -> Result<Outcome, DecodeFault>
+    requires { IsValid reader.now }
+    ensures { Decodes outcome_val (value_outcome rep (type_shape reader.now)) (C.state cursor.old) (C.state cursor.new) result }
+{
+    shape_keeps_rules();
+    shape_laws::premises_hold();
+    let part = read_part(alloc, reader, Mode::of(rep), cursor)?;
+    end_value(cursor, rep, reader)?;
+    Ok(outcome(part))
+}
+
 /// Reads one value of the reader's type in that representation, at any place of the cursor's region; what is left behind the value is no
 /// fault, except behind a union in XCDR1, whose case has the rest of the region (Trailing). No writer's type is known (DDS-XTypes 1.3, 7.4.1
 /// and 7.4.2). A value that comes out has the reader's type, and at most the type's weight and 128 nodes for each octet that was read.
@@ -74,12 +92,10 @@ pub fn decode_value<C: Cursor>(
     ensures value { Decodes outcome_val (value_outcome rep (type_shape reader.now)) (C.state cursor.old) (C.state cursor.new) result }
 {
     shape_keeps_rules();
-    shape_laws::premises_hold();
     shape_laws::value_typed();
     shape_laws::value_nodes_bound();
-    let part = read_part(alloc, reader, Mode::of(rep), cursor)?;
-    end_value(cursor, rep, reader)?;
-    Ok(outcome(part))
+    let mut again = Rereading::new(cursor);
+    read_value(alloc, rep, reader, &mut again)
 }
 
 /// Reads one value in XCDR1, as `decode_value` does.

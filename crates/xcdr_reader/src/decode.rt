@@ -1,5 +1,5 @@
 // Values of octets.
-ghost use Rattle.std.specs.Prelude.{◌≡◌, ◌≤◌, ℕ, ℤ, true, false, length, IfOk, IfSome};
+ghost use Rattle.std.specs.Prelude.{◌≡◌, ◌≤◌, ◌+◌, ℕ, ℤ, true, false, length, IfOk, IfSome, OnOk};
 ghost use Rattle.std.specs.Option.{option_map};
 ghost use Rattle.type_trees.specs.declared.types.UnionType.{out-UnionType};
 ghost use Rattle.type_trees.specs.View.{struct_tree, union_tree};
@@ -32,6 +32,7 @@ use settled_parts::{
 };
 use std::alloc::Global;
 use type_trees::{Case, Elem, MapType, Member, StructType, UnionType, XType, as_prim};
+use xcdr_steps::again::Peeking;
 use xcdr_steps::one::{close_content, open_content};
 use xcdr_steps::reading::{Choice, Header, Heading, array_count, choose, has_ended, read_count};
 use xt_shapes::Ext;
@@ -42,7 +43,7 @@ use xt_wire::cursor::{
 
 /// Reads a value of this type in the cursor's region.
 #[cycle(decode)]
-pub(crate) fn read_part<C: Cursor>(
+pub(crate) fn read_part<C: Peeking>(
     alloc: Global,
     ty: &XType,
     mode: Mode,
@@ -60,7 +61,7 @@ pub(crate) fn read_part<C: Cursor>(
 // Reads what is inside the value's own region, where it has one.
 #[cycle(decode)]
 #[tactic(auto, using(type_trees::proofs::Views::tree_rules))]
-fn read_inside<C: Cursor>(
+fn read_inside<C: Peeking>(
     alloc: Global,
     ty: &XType,
     mode: Mode,
@@ -87,7 +88,7 @@ fn read_inside<C: Cursor>(
 }
 
 #[cycle(decode)]
-fn read_items<C: Cursor>(
+fn read_items<C: Peeking>(
     alloc: Global,
     elem: &Elem,
     bound: u32,
@@ -111,7 +112,7 @@ fn read_items<C: Cursor>(
 }
 
 #[cycle(decode)]
-fn read_entries<C: Cursor>(
+fn read_entries<C: Peeking>(
     alloc: Global,
     kind: &MapType,
     mode: Mode,
@@ -132,7 +133,7 @@ fn read_entries<C: Cursor>(
 }
 
 #[cycle(decode)]
-fn read_structure<C: Cursor>(
+fn read_structure<C: Peeking>(
     alloc: Global,
     kind: &StructType,
     mode: Mode,
@@ -151,7 +152,7 @@ fn read_structure<C: Cursor>(
 
 // Reads the members of an APPENDABLE structure.
 #[cycle(decode)]
-fn read_appended<C: Cursor>(
+fn read_appended<C: Peeking>(
     alloc: Global,
     members: &[Member],
     mode: Mode,
@@ -169,7 +170,7 @@ fn read_appended<C: Cursor>(
 
 // Reads members of a region that may end before the last, and has what is left of it.
 #[cycle(decode)]
-fn read_cut<C: Cursor>(
+fn read_cut<C: Peeking>(
     alloc: Global,
     members: &[Member],
     mode: Mode,
@@ -185,7 +186,7 @@ fn read_cut<C: Cursor>(
 }
 
 #[cycle(decode)]
-fn read_members<C: Cursor>(
+fn read_members<C: Peeking>(
     alloc: Global,
     members: &[Member],
     cut: bool,
@@ -206,7 +207,7 @@ fn read_members<C: Cursor>(
 // Reads what comes of the next member straight into its slot.
 #[cycle(decode)]
 #[inline(always)]
-fn read_slot<C: Cursor>(
+fn read_slot<C: Peeking>(
     alloc: Global,
     member: &Member,
     cut: bool,
@@ -238,7 +239,7 @@ fn read_slot<C: Cursor>(
 
 #[cycle(decode)]
 #[tactic(auto, using(crate::proofs::PieceSteps::held_count, crate::proofs::PieceSteps::held_index))]
-fn read_pieces<C: Cursor>(
+fn read_pieces<C: Peeking>(
     alloc: Global,
     members: &[Member],
     mode: Mode,
@@ -278,7 +279,7 @@ fn end_pieces<C: Cursor>(
 
 // What comes next among the members of a mutable structure: none at their end.
 #[cycle(decode)]
-fn read_next<C: Cursor>(
+fn read_next<C: Peeking>(
     alloc: Global,
     members: &[Member],
     known: &Known,
@@ -308,7 +309,7 @@ fn read_next<C: Cursor>(
 
 #[cycle(decode)]
 #[tactic(auto, using(crate::proofs::Indexed::sound_item))]
-fn read_piece<C: Cursor>(
+fn read_piece<C: Peeking>(
     alloc: Global,
     members: &[Member],
     header: Header,
@@ -324,6 +325,7 @@ fn read_piece<C: Cursor>(
     requires at { (C.state cursor.old).origin ≤ header.at }
     ensures new { IfOk result (IsNew (members_shape members.now) known.now) }
     ensures within { IfOk result (IsWithin (length members.now)) }
+    ensures behind { OnOk result ((C.state cursor.new).place ≡ (C.state cursor.old).place + header.length) }
     ensures value { Decodes piece_of (λ o s. piece_read (named_in mode o (members_shape members.now) header.id) (has_come (members_shape members.now) known.now header.id) (header_view (C.state cursor.old) header) s) (C.state cursor.old) (C.state cursor.new) result }
 {
     match known.place(members, header)? {
@@ -341,7 +343,7 @@ fn read_piece<C: Cursor>(
 // Reads the content of a member whose header was read.
 #[cycle(decode)]
 #[inline(always)]
-fn read_member<C: Cursor>(
+fn read_member<C: Peeking>(
     alloc: Global,
     member: &Member,
     length: u64,
@@ -350,14 +352,15 @@ fn read_member<C: Cursor>(
 ) -> Result<Part, DecodeFault>
     requires sound { sound (type_shape member.now.ty) ≡ true }
     requires room { length ≤ room (C.state cursor.old) }
-    ensures { Decodes part_of (content_in mode length (type_shape member.now.ty)) (C.state cursor.old) (C.state cursor.new) result }
+    ensures behind { OnOk result ((C.state cursor.new).place ≡ (C.state cursor.old).place + length) }
+    ensures value { Decodes part_of (content_in mode length (type_shape member.now.ty)) (C.state cursor.old) (C.state cursor.new) result }
 {
     read_content(alloc, &member.ty, length, mode, cursor)
 }
 
 // Reads the content of `length` octets that a member's header counts.
 #[cycle(decode)]
-fn read_content<C: Cursor>(
+fn read_content<C: Peeking>(
     alloc: Global,
     ty: &XType,
     length: u64,
@@ -366,7 +369,8 @@ fn read_content<C: Cursor>(
 ) -> Result<Part, DecodeFault>
     requires sound { sound (type_shape ty.now) ≡ true }
     requires room { length ≤ room (C.state cursor.old) }
-    ensures { Decodes part_of (content_in mode length (type_shape ty.now)) (C.state cursor.old) (C.state cursor.new) result }
+    ensures behind { OnOk result ((C.state cursor.new).place ≡ (C.state cursor.old).place + length) }
+    ensures value { Decodes part_of (content_in mode length (type_shape ty.now)) (C.state cursor.old) (C.state cursor.new) result }
 {
     match mode {
         Mode::Two => read_filled(alloc, ty, length, cursor),
@@ -377,7 +381,7 @@ fn read_content<C: Cursor>(
 
 // Reads a value in a region of `length` octets, which must be used up.
 #[cycle(decode)]
-fn read_filled<C: Cursor>(
+fn read_filled<C: Peeking>(
     alloc: Global,
     ty: &XType,
     length: u64,
@@ -385,7 +389,8 @@ fn read_filled<C: Cursor>(
 ) -> Result<Part, DecodeFault>
     requires sound { sound (type_shape ty.now) ≡ true }
     requires room { length ≤ room (C.state cursor.old) }
-    ensures { Decodes part_of (λ o s. filling length (λ s1. read o (type_shape ty.now) s1) s) (C.state cursor.old) (C.state cursor.new) result }
+    ensures behind { OnOk result ((C.state cursor.new).place ≡ (C.state cursor.old).place + length) }
+    ensures value { Decodes part_of (λ o s. filling length (λ s1. read o (type_shape ty.now) s1) s) (C.state cursor.old) (C.state cursor.new) result }
 {
     let outer = enter_part(cursor, length)?;
     let part = read_part(alloc, ty, Mode::Two, cursor)?;
@@ -401,7 +406,7 @@ fn read_filled<C: Cursor>(
 
 // Reads a value in a region of `length` octets with an origin of its own.
 #[cycle(decode)]
-fn read_parameter_content<C: Cursor>(
+fn read_parameter_content<C: Peeking>(
     alloc: Global,
     ty: &XType,
     length: u64,
@@ -409,7 +414,8 @@ fn read_parameter_content<C: Cursor>(
 ) -> Result<Part, DecodeFault>
     requires sound { sound (type_shape ty.now) ≡ true }
     requires room { length ≤ room (C.state cursor.old) }
-    ensures { Decodes part_of (parameter_content length (type_shape ty.now)) (C.state cursor.old) (C.state cursor.new) result }
+    ensures behind { OnOk result ((C.state cursor.new).place ≡ (C.state cursor.old).place + length) }
+    ensures value { Decodes part_of (parameter_content length (type_shape ty.now)) (C.state cursor.old) (C.state cursor.new) result }
 {
     let content = open_content(cursor, length)?;
     let part = read_part(alloc, ty, Mode::Tail, cursor)?;
@@ -418,7 +424,7 @@ fn read_parameter_content<C: Cursor>(
 }
 
 #[cycle(decode)]
-fn read_union<C: Cursor>(
+fn read_union<C: Peeking>(
     alloc: Global,
     kind: &UnionType,
     mode: Mode,
@@ -435,7 +441,7 @@ fn read_union<C: Cursor>(
 }
 
 #[cycle(decode)]
-fn read_selected<C: Cursor>(
+fn read_selected<C: Peeking>(
     alloc: Global,
     kind: &UnionType,
     filled: bool,
@@ -453,7 +459,7 @@ fn read_selected<C: Cursor>(
 
 #[cycle(decode)]
 #[tactic(auto, using(crate::proofs::Indexed::sound_case))]
-fn read_case<C: Cursor>(
+fn read_case<C: Peeking>(
     alloc: Global,
     cases: &[Case],
     number: i128,
@@ -476,7 +482,7 @@ fn read_case<C: Cursor>(
 }
 
 #[cycle(decode)]
-fn read_body<C: Cursor>(
+fn read_body<C: Peeking>(
     alloc: Global,
     case: &Case,
     filled: bool,
@@ -492,7 +498,7 @@ fn read_body<C: Cursor>(
 
 // Reads a case's value, which has all that is left of the region where it is `filled`.
 #[cycle(decode)]
-fn read_whole<C: Cursor>(
+fn read_whole<C: Peeking>(
     alloc: Global,
     ty: &XType,
     filled: bool,

@@ -1,3 +1,4 @@
+pub mod OfAgain
 pub mod OfOne
 pub mod OfReading
 pub mod OfScalars

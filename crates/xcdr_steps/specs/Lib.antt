@@ -1,3 +1,4 @@
+pub mod again
 pub mod index
 pub mod one
 pub mod reading

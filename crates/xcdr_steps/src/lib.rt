@@ -2,6 +2,7 @@
 //! XCDR1 (`one`) and of XCDR2 (`two`), and the members of a structure by their ids (`index`).
 #![tactic(auto)]
 
+pub mod again;
 pub mod index;
 pub mod one;
 pub mod reading;

@@ -1,4 +1,3 @@
-pub mod Held
 pub mod Marks
 pub mod Standings
 pub mod Streaming

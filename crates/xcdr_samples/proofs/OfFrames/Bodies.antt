@@ -77,12 +77,13 @@ body_fails view wanted f h a b c x OutOfMemory st en r = record {
   told = λ xs e. elim (body_at f h (spot a xs)) as (λ q. Answers wanted a c xs q (Err OutOfMemory)) [ Ok y ↦ tt | Err y ↦ tt ];
 }
 
-end_within : (h : Told) (a b c d : Standing) (x : OpenSample) → Entered h a b x → Within b c → Ended x c d → Within a d
-end_within h a b c d x en w l = record {
+end_within : (h : Told) (a b c d : Standing) (x : OpenSample) → Stands c → Entered h a b x → Within b c → Ended x c d → Within a d
+end_within h a b c d x st en w l = record {
   along = along_trans en.along (along_trans w.along l.along);
   region_end = l.region_end ∙ en.outer;
   origin = l.origin ∙ en.old_origin;
   order = l.order ∙ en.old_order;
+  reach = omega (arith, l.reach, l.place, w.reach, w.region_end, en.reach, en.region_end, en.outer, st.in_region);
 }
 
 -- the value is all of the body
@@ -90,7 +91,7 @@ pub body_ends : {T A : Type 0} (view : T → A) (f : Order → Spot → Reading 
 unfolding ◌>>=◌ step
 body_ends view f h a b c d x t st stc en r l =
     let place : d.place ≡ a.region_end = l.place ∙ en.outer in record {
-      within = end_within h a b c d x en r.within l;
+      within = end_within h a b c d x stc en r.within l;
       later = omega (arith, place, st.in_region);
       inside = λ k. omega (arith, place);
       cause = tt;
@@ -98,7 +99,7 @@ body_ends view f h a b c d x t st stc en r l =
           let one = read_ok view (f b.order (spot b xs)) b c xs t (r.told xs (en.ahead ∙ e)) in
           let empty : length one.0.1.rest ≡ 0 = ap (λ (s : Spot). length s.rest) (sym one.1.spot) ∙ ap (λ (k : ℕ). length (take k (after b c xs))) l.empty in
           let test : nat_eq (length one.0.1.rest) 0 ≡ true = eq-eqb _ _ empty in
-          let w = end_within h a b c d x en r.within l in
+          let w = end_within h a b c d x stc en r.within l in
           let on : d.place - a.place ≡ room a = omega (arith, place) in
           let there : d.ahead ≡ Some (after a d xs) = l.ahead ∙ ap (option_map (drop x.padding)) one.1.ahead ∙ ap (λ (ys : List ℕ). Some ys) (drop-drop x.padding (c.place - b.place) xs ∙ ap (λ (k : ℕ). drop k xs) (omega (arith, place, l.empty, stc.in_region, r.within.region_end, en.region_end, en.place, en.padding, en.fits, st.in_region))) in
           let at : d.place - d.origin ≡ a.place - a.origin + length (take (room a) xs) = omega (arith, place, w.origin, room_is xs st e, st.from_origin, st.in_region) in

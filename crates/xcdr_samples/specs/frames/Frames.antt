@@ -1,6 +1,6 @@
 -- A sample in a region: encapsulation, body and counted padding (DDS-XTypes 1.3, 7.6.3.1.2). A sample's places are counted from its first
 -- octet, its body's from the octet behind the encapsulation. That regions bound samples is this profile's own.
-use Rattle.std.specs.Prelude.{◌≡◌, ℕ, ◌+◌, ◌-◌, ◌≤◌, ◌<◌, ◌⊎◌, List, length, take, drop, cond, ◌==◌, Result, Ok, Err}
+use Rattle.std.specs.Prelude.{◌≡◌, ℕ, ◌+◌, ◌-◌, ◌≤◌, ◌<◌, ◌⊎◌, max, List, length, take, drop, cond, ◌==◌, Result, Ok, Err}
 use Rattle.std.specs.Option.{option_map}
 use Rattle.xt_shapes.specs.declared.leaves.Ext.{Ext}
 use Rattle.xt_shapes.specs.declared.leaves.Order.{Order}
@@ -48,6 +48,7 @@ pub record Entered (h : Told) (a b : Standing) (x : OpenSample) : Type 0 where
   pub ahead : b.ahead ≡ a.ahead
   pub origin : b.origin ≡ a.place
   pub order : b.order ≡ h.0
+  pub reach : b.reach ≡ a.reach
   pub outer : x.outer.end ≡ a.region_end
   pub padding : x.padding ≡ h.1
   pub old_origin : x.origin ≡ a.origin
@@ -78,6 +79,7 @@ pub record Ended (x : OpenSample) (a b : Standing) : Type 0 where
   pub ahead : b.ahead ≡ option_map (drop x.padding) a.ahead
   pub origin : b.origin ≡ x.origin
   pub order : b.order ≡ x.order
+  pub reach : b.reach ≤ max a.reach b.place
 
 -- octets of the body are left
 pub record Trails (a b : Standing) (d : DecodeFault) : Type 0 where

@@ -78,19 +78,20 @@ content_fails view wanted f n closed a b c x OutOfMemory st en r = record {
 end_place : {n k : ℕ} {a b c d : Standing} {x : Content} → Opened n a b x → Within b c → Closed k x c d → d.place ≡ a.place + n
 end_place en w l = l.place ∙ l.left.place ∙ w.region_end ∙ en.region_end
 
-end_within : {n k : ℕ} {a b c d : Standing} {x : Content} → Opened n a b x → Within b c → Closed k x c d → Within a d
-end_within en w l = record {
+end_within : {n k : ℕ} {a b c d : Standing} {x : Content} → Stands c → Opened n a b x → Within b c → Closed k x c d → Within a d
+end_within st en w l = record {
   along = along_trans en.along (along_trans w.along (along_trans l.left.along l.along));
   region_end = l.region_end ∙ l.left.region_end ∙ en.outer;
   origin = l.origin ∙ en.old_origin;
   order = l.order ∙ l.left.order ∙ w.order ∙ en.order;
+  reach = omega (arith, l.reach, l.place, l.left.reach, l.left.place, w.reach, en.reach, st.in_region);
 }
 
-end_spot : {n k : ℕ} {a b c d : Standing} {x : Content} (xs : List ℕ) → Stands a → Opened n a b x → Within b c → Closed k x c d → spot d (after a d xs) ≡ step n (spot a xs)
+end_spot : {n k : ℕ} {a b c d : Standing} {x : Content} (xs : List ℕ) → Stands a → Stands c → Opened n a b x → Within b c → Closed k x c d → spot d (after a d xs) ≡ step n (spot a xs)
 unfolding step
-end_spot {n} {k} {a} {b} {c} {d} xs st en w l =
+end_spot {n} {k} {a} {b} {c} {d} xs st stc en w l =
     let place = end_place en w l in
-    let all = end_within en w l in
+    let all = end_within stc en w l in
     let on : d.place - a.place ≡ n = omega (arith, place) in
     let at : d.place - d.origin ≡ a.place - a.origin + n = omega (arith, place, all.origin, st.from_origin) in
     let left : room d ≡ room a - n = omega (arith, place, all.region_end) in
@@ -105,7 +106,7 @@ end_ahead {n} {k} {a} {b} {c} {d} xs stc en w later l e =
 pub content_ends : {T A : Type 0} (view : T → A) (f : Order → Spot → Reading A) (n : ℕ) (closed : Bool) (a b c d : Standing) (x : Content) (t : T) → Stands a → Stands c → Opened n a b x → Decodes view f b c (Ok t) → Closed (spare closed) x c d → Decodes view (own_content n closed f) a d (Ok t)
 unfolding ◌>>=◌
 content_ends view f n closed a b c d x t st stc en r l = record {
-  within = end_within en r.within l;
+  within = end_within stc en r.within l;
   later = omega (arith, end_place en r.within l);
   inside = λ h. omega (arith, end_place en r.within l, en.fits, h);
   cause = tt;
@@ -116,7 +117,7 @@ content_ends view f n closed a b c d x t st stc en r l = record {
       rw (content_is f n closed a b x xs (Ok one.0) st en e one.2, few) (record {
         value = one.1.value;
         ahead = end_ahead xs stc en r.within r.later l one.1.ahead;
-        spot = end_spot xs st en r.within l;
+        spot = end_spot xs st stc en r.within l;
       });
 }
 

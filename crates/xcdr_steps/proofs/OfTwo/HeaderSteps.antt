@@ -15,11 +15,13 @@ use Rattle.xt_wire.specs.declared.cursor.faults.DecodeFault.TheVariants.{Malform
 use Rattle.xt_wire.specs.declared.cursor.cursor.CutFault.{CutFault}
 use Rattle.xt_wire.specs.declared.cursor.cursor.CutFault.TheVariants as cut
 use Rattle.xt_wire.specs.cursor.Cuts.{cut_fault}
-use Rattle.xt_wire.specs.cursor.Standing.{Standing, Stands, Stayed, Stopped, Peeked, Peeks, IsShort, room}
+use Rattle.xt_wire.specs.cursor.Standing.{Standing, Stands, Stayed, Stopped, IsShort, room}
 use Rattle.xt_wire.specs.cursor.Decoding.{Decodes, spot, after}
 use Rattle.xt_wire.specs.cursor.Steps.{placed_at}
 use Rattle.xt_wire.specs.cursor.Placing.{placed_view}
 use Rattle.xt_wire.proofs.OfCursor.Ahead.{Ahead, begins, placed_bind, room_is, read_fault, malformed, rephrased}
+use Rattle.xcdr_steps.specs.again.Peeking.{Peeked, Peeks, unheld}
+use Rattle.xcdr_steps.proofs.OfAgain.Unheld.{settled}
 use Rattle.xcdr_steps.specs.declared.reading.headings.Header.{Header}
 use Rattle.xcdr_steps.specs.reading.Headings.{Told, header_view, ended, told}
 use Rattle.xcdr_steps.specs.two.Headers.{counted_content, peeked_at, length_at, checked_header, header_at, next_at}
@@ -137,7 +139,7 @@ stays f {a} {b} st = record {
   told = λ xs e. (same_ahead a b xs st e, ap (f a.order) (sym (same_spot a b xs st)));
 }
 
-pub peek_ok : {a b : Standing} (octets : List ℕ) (n : ℕ) → Stands a → Peeked a b octets → n ≡ number a.order octets → Decodes {T = ℕ} (λ n. n) peeked_at a b (Ok n)
+pub peek_ok : {a b : Standing} (octets : List ℕ) (n : ℕ) → Stands a → Peeked a b octets → n ≡ number a.order octets → Decodes {T = ℕ} (λ n. n) peeked_at a (unheld a b) (Ok n)
 peek_ok {a} {b} octets n st p is = record {
   within = p.stayed.within;
   later = omega (arith, p.stayed.place);
@@ -145,7 +147,7 @@ peek_ok {a} {b} octets n st p is = record {
   cause = tt;
   told = λ xs e.
       let long : nat_lt (length (take (room a) xs)) 4 ≡ false = le-ltb _ _ (omega (arith, room_is xs st e, p.fits)) in
-      rw long (record { value = is ∙ ap (number a.order) (some_told octets a.ahead xs e p.told ∙ sym (take_first 4 (room a) xs p.fits)); ahead = same_ahead a b xs p.stayed e; spot = same_spot a b xs p.stayed });
+      rw long (record { value = is ∙ ap (number a.order) (some_told octets a.ahead xs e p.told ∙ sym (take_first 4 (room a) xs p.fits)); ahead = same_ahead a (unheld a b) xs p.stayed e; spot = same_spot a (unheld a b) xs p.stayed });
 }
 
 pub peek_short : {a b : Standing} (said : ℕ) → Stands a → IsShort 4 a.place a b said → Decodes {T = ℕ} (λ n. n) peeked_at a b (Err (Malformed said Short))
@@ -154,7 +156,7 @@ peek_short {a} {b} said st p =
     (λ xs e. let few : nat_lt (length (take (room b) xs)) 4 ≡ true = lt-ltb _ _ (omega (arith, length-take (room b) xs, p.lacks, p.stayed.place, p.stayed.within.region_end)) in rw few refl) in
     malformed (λ n. n) (λ s. s.at) Short u (λ xs. omega (arith, p.at, p.stayed.place, p.stayed.within.origin, st.from_origin))
 
-pub peek_fault : {a b : Standing} → Stands b → Stopped a b → Decodes {T = ℕ} (λ n. n) peeked_at a b (Err ReadFault)
+pub peek_fault : {a b : Standing} → Stands b → Stopped 4 a b → Decodes {T = ℕ} (λ n. n) peeked_at a b (Err ReadFault)
 peek_fault {a} {b} st p = read_fault (λ n. n) (begins peeked_at peeked_at a (λ s. refl)) (record { along = p.within.along; later = p.later; inside = λ h. omega (arith, st.in_region, p.within.region_end); fault = refl; rose = p.rose })
 
 -- ---- whether a header comes
@@ -180,6 +182,6 @@ next_none {a} {b} st p is = moved_on (λ o s. Ok (ended, s)) (rephrased next_at 
 pub next_some : {a b : Standing} → Stands a → Stayed a b → false ≡ nat_le (room a) (padding 4 (a.place - a.origin)) → Ahead next_at (λ o s. header_at o s >>= λ h. Ok (told h.0, h.1)) a b
 next_some {a} {b} st p is = moved_on (λ o s. header_at o s >>= λ h. Ok (told h.0, h.1)) (rephrased next_at (λ o s. header_at o s >>= λ h. Ok (told h.0, h.1)) (begins next_at next_at a (λ s. refl)) (λ xs e. rw (ends_is a xs st e, ← is) refl)) p
 
-pub peek_err : {a b : Standing} (f : CutFault) → Stands a → Stands b → Peeks a b (Err f) → Decodes {T = ℕ} (λ n. n) peeked_at a b (Err (cut_fault f))
-peek_err (cut.Short said) st st2 p = peek_short said st p
-peek_err cut.Fault st st2 p = peek_fault st2 p.1
+pub peek_err : {a b : Standing} (f : CutFault) → Stands a → Stands b → Peeks a b (Err f) → Decodes {T = ℕ} (λ n. n) peeked_at a (unheld a b) (Err (cut_fault f))
+peek_err {a} {b} (cut.Short said) st st2 p = settled b.reach b (peek_short said st p)
+peek_err {a} {b} cut.Fault st st2 p = settled b.reach b (peek_fault st2 p.1)

@@ -28,6 +28,7 @@ pub record Opened (n : ℕ) (a b : Standing) (x : Content) : Type 0 where
   pub ahead : b.ahead ≡ a.ahead
   pub origin : b.origin ≡ a.place
   pub order : b.order ≡ a.order
+  pub reach : b.reach ≡ a.reach
   pub outer : x.outer.end ≡ a.region_end
   pub old_origin : x.origin ≡ a.origin
 
@@ -47,6 +48,7 @@ pub record Closed (k : ℕ) (x : Content) (a b : Standing) : Type 0 where
   pub ahead : b.ahead ≡ middle.ahead
   pub origin : b.origin ≡ x.origin
   pub order : b.order ≡ middle.order
+  pub reach : b.reach ≡ middle.reach
 
 -- too many octets are left
 pub record HasRest (k : ℕ) (a b : Standing) (e : DecodeFault) : Type 0 where

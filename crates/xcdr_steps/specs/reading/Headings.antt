@@ -25,6 +25,12 @@ next_view a End = ended
 next_view a (Ignored n) = ignored n
 next_view a (Member h) = told (header_view a h)
 
+-- how many octets it has behind it
+abbrev pub content_length : Heading → ℕ
+content_length End = 0
+content_length (Ignored n) = n
+content_length (Member h) = h.length
+
 -- its octets are in the region, and its place is not before the origin
 abbrev pub IsHeld : Standing → Heading → Type 0
 IsHeld a End = Unit {0}

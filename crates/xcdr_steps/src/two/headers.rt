@@ -1,11 +1,13 @@
 // The headers of a mutable structure's members (DDS-XTypes 1.3, 7.4.3.4: EMHEADER, its length code and NEXTINT).
 ghost use Rattle.std.specs.Prelude.{◌≡◌, ◌≤◌, ◌<◌, ◌^◌, IfOk, nat_le};
+ghost use Rattle.xcdr_steps.specs.again.Peeking.{HoldsAtMost, unheld};
 ghost use Rattle.xt_wire.specs.cursor.Decoding.{Decodes};
 ghost use Rattle.xt_wire.specs.cursor.Standing.{Stayed, room, pad_of};
 ghost use Rattle.xt_wire.specs.cursor.Placing.{placed_view};
-ghost use Rattle.xcdr_steps.specs.reading.Headings.{header_view, next_view, IsHeld};
+ghost use Rattle.xcdr_steps.specs.reading.Headings.{header_view, next_view, content_length, IsHeld};
 ghost use Rattle.xcdr_steps.specs.two.Headers.{length_at, checked_header, header_at, next_at, peeked_at, counted_content};
 
+use crate::again::Peeking;
 use crate::reading::{Header, Heading};
 use xcdr_model::Why;
 use xt_wire::cursor::{Cursor, DecodeFault, Placed, cut, read_number, read_placed};
@@ -15,9 +17,10 @@ use xt_wire::numbers::{number, padding};
 const ID_LIMIT: u64 = 0x1000_0000;
 
 // Reads the next four octets as a number, before which the cursor stays: they are the content's first.
-fn read_ahead<C: Cursor>(cursor: &mut C) -> Result<u64, DecodeFault>
+fn read_ahead<C: Peeking>(cursor: &mut C) -> Result<u64, DecodeFault>
     ensures below { IfOk result (λ n. n < 256 ^ 4) }
-    ensures value { Decodes (λ n. n) peeked_at (C.state cursor.old) (C.state cursor.new) result }
+    ensures held { IfOk result (λ _. HoldsAtMost 4 (C.state cursor.old) (C.state cursor.new)) }
+    ensures value { Decodes (λ n. n) peeked_at (C.state cursor.old) (unheld (C.state cursor.old) (C.state cursor.new)) result }
 {
     match cursor.peek() {
         Ok(octets) => Ok(number(cursor.order(), &octets)),
@@ -53,8 +56,9 @@ fn short_length(code: u64) -> u64
 }
 
 // Reads how many octets a member's content has, by the header's length code.
-fn read_length<C: Cursor>(cursor: &mut C, code: u64) -> Result<u64, DecodeFault>
-    ensures { Decodes (λ n. n) (length_at code) (C.state cursor.old) (C.state cursor.new) result }
+fn read_length<C: Peeking>(cursor: &mut C, code: u64) -> Result<u64, DecodeFault>
+    ensures held { IfOk result (λ n. HoldsAtMost n (C.state cursor.old) (C.state cursor.new)) }
+    ensures value { Decodes (λ n. n) (length_at code) (C.state cursor.old) (unheld (C.state cursor.old) (C.state cursor.new)) result }
 {
     if code < 4 {
         return Ok(short_length(code));
@@ -71,6 +75,7 @@ fn checked<C: Cursor>(cursor: &C, word: Placed, length: u64) -> Result<Header, D
     requires { (C.state cursor.now).origin ≤ word.at }
     ensures room { IfOk result (λ h. h.length ≤ room (C.state cursor.now)) }
     ensures at { IfOk result (λ h. (C.state cursor.now).origin ≤ h.at) }
+    ensures length { IfOk result (λ h. h.length ≡ length) }
     ensures value { Decodes (header_view (C.state cursor.now)) (checked_header (placed_view (C.state cursor.now) word) length) (C.state cursor.now) (C.state cursor.now) result }
 {
     let id = word.number % ID_LIMIT;
@@ -95,10 +100,11 @@ fn checked<C: Cursor>(cursor: &C, word: Placed, length: u64) -> Result<Header, D
 }
 
 // Reads a member's header.
-fn read_header<C: Cursor>(cursor: &mut C) -> Result<Header, DecodeFault>
+fn read_header<C: Peeking>(cursor: &mut C) -> Result<Header, DecodeFault>
     ensures room { IfOk result (λ h. h.length ≤ room (C.state cursor.new)) }
     ensures at { IfOk result (λ h. (C.state cursor.new).origin ≤ h.at) }
-    ensures value { Decodes (header_view (C.state cursor.old)) header_at (C.state cursor.old) (C.state cursor.new) result }
+    ensures held { IfOk result (λ h. HoldsAtMost h.length (C.state cursor.old) (C.state cursor.new)) }
+    ensures value { Decodes (header_view (C.state cursor.old)) header_at (C.state cursor.old) (unheld (C.state cursor.old) (C.state cursor.new)) result }
 {
     let word = read_placed(cursor, 4, 4)?;
     let length = read_length(cursor, word.number / ID_LIMIT % 8)?;
@@ -117,10 +123,11 @@ fn has_padding_alone<C: Cursor>(cursor: &mut C) -> bool
 }
 
 /// Reads what comes next: a member's header, or the end where the region ends before one. MemberId comes where no member can have the id,
-/// MemberSize where the content passes the region.
-pub fn next_header<C: Cursor>(cursor: &mut C) -> Result<Heading, DecodeFault>
-    ensures held { IfOk result (IsHeld (C.state cursor.new)) }
-    ensures value { Decodes (next_view (C.state cursor.old)) next_at (C.state cursor.old) (C.state cursor.new) result }
+/// MemberSize where the content passes the region. Of the content some octets may be held, which are given again.
+pub fn next_header<C: Peeking>(cursor: &mut C) -> Result<Heading, DecodeFault>
+    ensures within { IfOk result (IsHeld (C.state cursor.new)) }
+    ensures held { IfOk result (λ x. HoldsAtMost (content_length x) (C.state cursor.old) (C.state cursor.new)) }
+    ensures value { Decodes (next_view (C.state cursor.old)) next_at (C.state cursor.old) (unheld (C.state cursor.old) (C.state cursor.new)) result }
 {
     if has_padding_alone(cursor) {
         return Ok(Heading::End);

@@ -29,7 +29,7 @@ reads_err : {T A : Type 0} (view : T → A) (r : Reading A) (a b : Standing) (xs
 reads_err view (Ok x) a b xs p w d = absurd d
 reads_err view (Err f) a b xs p w d = (f, d, refl)
 
-rose_more : {n m k : ℕ} → n ≤ m → Rose m k → Rose n k
+pub rose_more : {n m k : ℕ} → n ≤ m → Rose m k → Rose n k
 rose_more le r = omega arith
 
 -- ---- octets in a region
@@ -37,7 +37,7 @@ rose_more le r = omega arith
 pub room_is : {a : Standing} (xs : List ℕ) → Stands a → a.ahead ≡ Some xs → length (take (room a) xs) ≡ room a
 room_is {a} xs st e = omega (arith, length-take (room a) xs, st.told xs e, st.in_region, st.in_whole)
 
-drop_of_take : (n m : ℕ) (xs : List ℕ) → n ≤ m → take (m - n) (drop n xs) ≡ drop n (take m xs)
+pub drop_of_take : (n m : ℕ) (xs : List ℕ) → n ≤ m → take (m - n) (drop n xs) ≡ drop n (take m xs)
 drop_of_take n m xs le = sym (drop-take n (m - n) xs) ∙ ap (λ (k : ℕ). drop n (take k xs)) (omega arith)
 
 -- ---- standings
@@ -45,8 +45,8 @@ drop_of_take n m xs le = sym (drop-take n (m - n) xs) ∙ ap (λ (k : ℕ). drop
 pub along_trans : {a b c : Standing} → Along a b → Along b c → Along a c
 along_trans p q = record { whole = q.whole ∙ p.whole; name = q.name ∙ p.name; faults = omega (arith, p.faults, q.faults) }
 
-pub within_trans : {a b c : Standing} → Within a b → Within b c → Within a c
-within_trans p q = record { along = along_trans p.along q.along; region_end = q.region_end ∙ p.region_end; origin = q.origin ∙ p.origin; order = q.order ∙ p.order }
+pub within_trans : {a b c : Standing} → Within a b → Within b c → b.place ≤ c.place → Within a c
+within_trans p q later = record { along = along_trans p.along q.along; region_end = q.region_end ∙ p.region_end; origin = q.origin ∙ p.origin; order = q.order ∙ p.order; reach = omega (arith, p.reach, q.reach, later) }
 
 -- in the region first, and then from there on
 pub inside_trans : {a b : Standing} (c : Standing) → Within a b → StaysInside a b → StaysInside b c → StaysInside a c
@@ -57,7 +57,7 @@ pub inside_entered : {n : ℕ} {a b : Standing} {outer : Outer} (c : Standing) �
 inside_entered c en q h = omega (arith, q (omega (arith, en.place, en.region_end)), en.place, en.region_end, en.fits)
 
 pub within_refl : (a : Standing) → Within a a
-within_refl a = record { along = record { whole = refl; name = refl; faults = omega arith }; region_end = refl; origin = refl; order = refl }
+within_refl a = record { along = record { whole = refl; name = refl; faults = omega arith }; region_end = refl; origin = refl; order = refl; reach = omega arith }
 
 -- the octets ahead, n octets on
 pub moved_ahead : {n : ℕ} {a b : Standing} (xs : List ℕ) → Moved n a b → a.ahead ≡ Some xs → b.ahead ≡ Some (after a b xs)
@@ -120,7 +120,7 @@ decodes_pass view n a b r st st2 g = decodes_going view (λ s. n) (λ s. s.at) (
     (λ xs e. (refl, omega (arith, st.from_origin)))
     (λ t xs is e. refl)
 
-take_of_take : (n m : ℕ) (xs : List ℕ) → n ≤ m → m ≤ length xs → take n (take m xs) ≡ take n xs
+pub take_of_take : (n m : ℕ) (xs : List ℕ) → n ≤ m → m ≤ length xs → take n (take m xs) ≡ take n xs
 take_of_take n m xs le within =
     let inside : n ≤ length (take m xs) = omega (arith, length-take m xs) in
     sym (take-append-le n (take m xs) (drop m xs) inside) ∙ ap (take n) (take-append-drop m xs)
@@ -170,7 +170,7 @@ pub goes_on : {T A B : Type 0} {f : Order → Spot → Reading B} (view : T → 
     → Ahead f (λ o s. h o s >>= λ x. k x.0 o x.1) a b → Decodes view h b c (Ok t) → Ahead f (k (view t)) a c
 unfolding ◌>>=◌
 goes_on {f = f} view h k {a} {b} {c} {t} u d = record {
-  within = within_trans u.within d.within;
+  within = within_trans u.within d.within d.later;
   later = omega (arith, u.later, d.later);
   inside = inside_trans c u.within u.inside d.inside;
   told = λ xs e.
@@ -287,12 +287,13 @@ entered_spot n a b outer xs st t e =
     let left : room b ≡ n = omega (arith, t.place, t.region_end) in
     rw (at, left) (ap (λ (l : List ℕ). record { at = a.place - a.origin; rest = l }) (sym (take_of_take n (room a) xs t.fits (omega (arith, st.told xs e, st.in_region, st.in_whole)))))
 
-left_within : (n : ℕ) (a b c d : Standing) (outer : Outer) → Entered n a b outer → Within b c → Left outer.end c d → Within a d
-left_within n a b c d outer t w l = record {
+left_within : (n : ℕ) (a b c d : Standing) (outer : Outer) → Stands c → Entered n a b outer → Within b c → Left outer.end c d → Within a d
+left_within n a b c d outer st t w l = record {
   along = along_trans t.along (along_trans w.along l.along);
   region_end = l.region_end ∙ t.outer;
   origin = l.origin ∙ w.origin ∙ t.origin;
   order = l.order ∙ w.order ∙ t.order;
+  reach = omega (arith, l.reach, l.place, w.reach, t.reach, st.in_region);
 }
 
 left_place : (n : ℕ) (a b c d : Standing) (outer : Outer) → Entered n a b outer → Within b c → Left outer.end c d → d.place ≡ a.place + n
@@ -302,11 +303,11 @@ left_ahead : (n : ℕ) (a b c d : Standing) (outer : Outer) (xs : List ℕ) → 
 left_ahead n a b c d outer xs st t w later l e =
     l.ahead ∙ ap (option_map (drop (room c))) e ∙ ap (λ (ys : List ℕ). Some ys) (drop-drop (room c) (c.place - b.place) xs ∙ ap (λ (k : ℕ). drop k xs) (omega (arith, st.in_region, left_place n a b c d outer t w l, l.place, t.place, t.fits, later)))
 
-left_spot : (n : ℕ) (a b c d : Standing) (outer : Outer) (xs : List ℕ) → Stands a → Entered n a b outer → Within b c → Left outer.end c d → spot d (after a d xs) ≡ step n (spot a xs)
+left_spot : (n : ℕ) (a b c d : Standing) (outer : Outer) (xs : List ℕ) → Stands a → Stands c → Entered n a b outer → Within b c → Left outer.end c d → spot d (after a d xs) ≡ step n (spot a xs)
 unfolding step
-left_spot n a b c d outer xs st t w l =
+left_spot n a b c d outer xs st stc t w l =
     let k : d.place - a.place ≡ n = omega (arith, left_place n a b c d outer t w l) in
-    let all = left_within n a b c d outer t w l in
+    let all = left_within n a b c d outer stc t w l in
     let at : d.place - d.origin ≡ a.place - a.origin + n = omega (arith, left_place n a b c d outer t w l, all.origin, st.from_origin) in
     let left : room d ≡ room a - n = omega (arith, left_place n a b c d outer t w l, all.region_end) in
     rw (at, left, k, drop_of_take n (room a) xs t.fits) refl
@@ -316,14 +317,14 @@ pub region_passed : {T A : Type 0} (view : T → A) (f : Order → Spot → Read
     → Decodes view (λ o s. passing n (f o) s) a d (Ok t)
 unfolding passing ◌>>=◌
 region_passed view f n a b c d outer t st stc en r l = record {
-  within = left_within n a b c d outer en r.within l;
+  within = left_within n a b c d outer stc en r.within l;
   later = omega (arith, left_place n a b c d outer en r.within l);
   inside = λ h. omega (arith, left_place n a b c d outer en r.within l, en.fits);
   cause = tt;
   told = λ xs e.
       let one = reads_ok view (f b.order (spot b xs)) b c xs t (r.told xs (en.ahead ∙ e)) in
       let same : f a.order (front n (spot a xs)) ≡ Ok one.0 = rw (← en.order, ← entered_spot n a b outer xs st en e) one.2 in
-      rw same (record { value = one.1.value; ahead = left_ahead n a b c d outer xs stc en r.within r.later l one.1.ahead; spot = left_spot n a b c d outer xs st en r.within l });
+      rw same (record { value = one.1.value; ahead = left_ahead n a b c d outer xs stc en r.within r.later l one.1.ahead; spot = left_spot n a b c d outer xs st stc en r.within l });
 }
 
 -- a region was read to its end
@@ -331,7 +332,7 @@ pub region_filled : {T A : Type 0} (view : T → A) (f : Order → Spot → Read
     → Decodes view (λ o s. filling n (f o) s) a d (Ok t)
 unfolding filling ◌>>=◌
 region_filled view f n a b c d outer t st stc en r none l = record {
-  within = left_within n a b c d outer en r.within l;
+  within = left_within n a b c d outer stc en r.within l;
   later = omega (arith, left_place n a b c d outer en r.within l);
   inside = λ h. omega (arith, left_place n a b c d outer en r.within l, en.fits);
   cause = tt;
@@ -340,7 +341,7 @@ region_filled view f n a b c d outer t st stc en r none l = record {
       let same : f a.order (front n (spot a xs)) ≡ Ok one.0 = rw (← en.order, ← entered_spot n a b outer xs st en e) one.2 in
       let empty : length one.0.1.rest ≡ 0 = ap (λ (s : Spot). length s.rest) (sym one.1.spot) ∙ ap (λ (k : ℕ). length (take k (after b c xs))) none in
       let test : nat_eq (length one.0.1.rest) 0 ≡ true = eq-eqb _ _ empty in
-      rw (same, test) (record { value = one.1.value; ahead = left_ahead n a b c d outer xs stc en r.within r.later l one.1.ahead; spot = left_spot n a b c d outer xs st en r.within l });
+      rw (same, test) (record { value = one.1.value; ahead = left_ahead n a b c d outer xs stc en r.within r.later l one.1.ahead; spot = left_spot n a b c d outer xs st stc en r.within l });
 }
 
 -- octets are left of a region

@@ -24,7 +24,7 @@ square_apart s t le =
 trichotomy : (s t : ℕ) → (s ≡ t) ⊎ ((suc s ≤ t) ⊎ (suc t ≤ s))
 trichotomy s t = grind arith
 
-two-inj : (a b c d : ℕ) → number_of_two a b ≡ number_of_two c d → (a ≡ c) × (b ≡ d)
+pub two-inj : (a b c d : ℕ) → number_of_two a b ≡ number_of_two c d → (a ≡ c) × (b ≡ d)
 unfolding number_of_two
 two-inj a b c d e = ⊎_elim
     (λ same. let squares : (a + b) * (a + b) ≡ (c + d) * (c + d) = ap (λ (n : ℕ). n * n) same in let first : a ≡ c = omega (arith, e, squares) in (first, omega (arith, first, same)))
@@ -33,7 +33,7 @@ two-inj a b c d e = ⊎_elim
     (λ lt. absurd (omega (arith, e, square_apart (c + d) (a + b) lt))))
     (trichotomy (a + b) (c + d))
 
-number-inj : (xs ys : List ℕ) → number_of xs ≡ number_of ys → xs ≡ ys
+pub number-inj : (xs ys : List ℕ) → number_of xs ≡ number_of ys → xs ≡ ys
 unfolding number_of
 number-inj [] [] e = refl
 number-inj [] (y ∷ ys) e = absurd (omega (arith, e))
@@ -128,7 +128,7 @@ bundle-inj (Some a) (Some b) e =
     let items : a.items ≡ b.items = items-inj _ _ lists in
     same_bundle items end
 
-octets-inj : (a b : Option (List ℕ)) → octets_numbers a ≡ octets_numbers b → a ≡ b
+pub octets-inj : (a b : Option (List ℕ)) → octets_numbers a ≡ octets_numbers b → a ≡ b
 octets-inj None None e = refl
 octets-inj None (Some ys) e = absurd cc
 octets-inj (Some xs) None e = absurd cc

@@ -1,5 +1,5 @@
 -- Where a cursor over a payload stands.
-use Rattle.std.proofs.Common.{◌≡◌, ℕ, ◌+◌, ◌-◌, ◌≤◌, ◌⊎◌, List, length, drop, refl, sym, ap, ◌∙◌, arith, Some, None, Result, Ok, Err, OnOk, OnErr, IfSome}
+use Rattle.std.proofs.Common.{◌≡◌, ℕ, ◌+◌, ◌≤◌, ◌⊎◌, List, length, drop, refl, sym, ap, ◌∙◌, arith, Some, None, Result, Ok, Err, OnOk, OnErr, IfSome}
 use Rattle.std.proofs.lemmas.List.{drop-drop}
 use Rattle.std.specs.declared.option.Option.{Option}
 use Rattle.std.specs.Option.{option_map}
@@ -12,13 +12,13 @@ use Rattle.xt_outside.specs.declared.octets.Source.{Ghosts}
 use Rattle.xt_outside.specs.declared.records.RecordFault.{RecordFault}
 use Rattle.xt_outside.specs.declared.records.RecordFault.TheVariants.{ReadFault}
 use Rattle.xt_wire.specs.streams.Streams.{payload_of, IsRead, IsMet, IsShortOf, stopped_result}
-use Rattle.xt_wire.specs.streams.Cursors.{stream_state, Ends, held_count}
+use Rattle.xt_wire.specs.streams.Cursors.{stream_state, Ends}
 use Rattle.xt_wire.specs.declared.streams.cursor.StreamCursor.{StreamCursor}
 use Rattle.xt_wire.proofs.OfStreams.Marks.{mark-inj}
 
-left_after : (n k m : ℕ) (o a : Option (List ℕ)) → k + n ≡ m → IfSome o (λ xs. a ≡ Some (drop m xs)) → IfSome (option_map (drop k) o) (λ xs. a ≡ Some (drop n xs))
-left_after n k m None a e left = tt
-left_after n k m (Some xs) a e left = left ∙ ap (λ l. Some l) (ap (λ (j : ℕ). drop j xs) (omega arith) ∙ sym (drop-drop n k xs))
+told_left : (k : ℕ) (o a : Option (List ℕ)) → IfSome o (λ xs. a ≡ Some (drop k xs)) → IfSome (option_map (drop k) o) (λ xs. a ≡ Some xs)
+told_left k None a left = tt
+told_left k (Some xs) a left = left
 
 met_fault : (p : Option Pending) (n : ℕ) (o : Option RecordFault) → IsMet p n o → IfSome o (λ f. IsMet p n (Some f))
 met_fault p n None m = tt
@@ -32,24 +32,23 @@ sure_count : (o : Option (List ℕ)) (k faults cuts : ℕ) → IfSome o (λ xs. 
 sure_count None k faults cuts sure = tt
 sure_count (Some xs) k faults cuts sure = omega (arith, sure)
 
-enough_after : (n k m : ℕ) (o p a : Option (List ℕ)) → k + n ≡ m → p ≡ o → IfSome o (λ xs. (a ≡ Some (drop m xs)) × (m ≤ length xs)) → IfSome p (λ xs. (a ≡ Some (drop (k + n) xs)) × (k + n ≤ length xs))
-enough_after n k m o p a e same enough = rw (e, same) enough
+enough_after : (m : ℕ) (o p a : Option (List ℕ)) → p ≡ o → IfSome o (λ xs. (a ≡ Some (drop m xs)) × (m ≤ length xs)) → IfSome p (λ xs. (a ≡ Some (drop m xs)) × (m ≤ length xs))
+enough_after m o p a same enough = rw same enough
 
 short_after : (whole : ℕ) (fault : Option RecordFault) (o p : Option (List ℕ)) → p ≡ o → IfSome fault (λ f. (f ≡ ReadFault) ⊎ IsShortOf whole o) → IfSome fault (λ f. (f ≡ ReadFault) ⊎ IsShortOf whole p)
 short_after whole fault o p same short = rw same short
 
-pub stream_ends : {X : Type 0} {G : Ghosts X} (c : StreamCursor X G) → IsRead c.payload → Ends (held_count c) (stream_state c) c.payload.reader
+pub stream_ends : {X : Type 0} {G : Ghosts X} (c : StreamCursor X G) → IsRead c.payload → Ends (stream_state c) c.payload.reader
 stream_ends c is began mark =
     let shared = mark-inj began c.payload.began mark in
     record {
-      few = omega (arith, c.holds);
-      within = omega (arith, c.reached, is.within);
+      within = is.within;
       name = is.name ∙ sym shared.name;
       follow = is.follow ∙ sym shared.follow;
       behind = rw shared.ahead is.behind;
-      octets = left_after (held_count c) c.place c.payload.read (payload_of c.payload) _ c.reached is.octets;
-      enough = enough_after (held_count c) c.place c.payload.read _ _ _ c.reached shared.inside is.enough;
-      pending = λ none. rw shared.pending (let rest : c.payload.whole - c.place - held_count c ≡ c.payload.whole - c.payload.read = omega (arith, c.reached) in rw rest (is.pending (met_none _ _ _ is.fault none)));
+      octets = told_left c.payload.read (payload_of c.payload) _ is.octets;
+      enough = enough_after c.payload.read _ _ _ shared.inside is.enough;
+      pending = λ none. rw shared.pending (is.pending (met_none _ _ _ is.fault none));
       fault = rw shared.pending (met_fault _ _ _ is.fault);
       short = short_after c.payload.whole c.payload.reader.fault _ _ shared.inside is.short;
       later = omega (arith, is.later, shared.faults);
@@ -74,15 +73,15 @@ drop_more n m (Some xs) = ap (λ l. Some l) (drop-drop m n xs)
 
 pub moved_more : {a b c : Standing} (n m : ℕ) → Moved n a b → Moved m b c → Moved (n + m) a c
 moved_more {a} {b} {c} n m p q = record {
-  within = within_trans p.within q.within;
+  within = within_trans p.within q.within (omega (arith, q.place));
   fits = omega (arith, p.fits, q.fits, p.place, p.within.region_end);
   place = omega (arith, p.place, q.place);
   ahead = q.ahead ∙ ap (option_map (drop m)) p.ahead ∙ drop_more n m a.ahead;
 }
 
-pub stopped_later : {a b c : Standing} {n : ℕ} → Moved n a b → Stopped b c → Stopped a c
-stopped_later p q = record { within = within_trans p.within q.within; later = omega (arith, p.place, q.later); rose = omega (arith, p.within.along.faults, q.rose) }
+pub stopped_later : {a b c : Standing} {n m k : ℕ} → Moved n a b → Stopped m b c → n + m ≤ k → Stopped k a c
+stopped_later p q le = record { within = within_trans p.within q.within q.later; later = omega (arith, p.place, q.later); few = omega (arith, p.place, q.few, le); rose = omega (arith, p.within.along.faults, q.rose) }
 
-pub goes_on : (n k at : ℕ) (a b : Standing) (r : Result (Unit {0}) Failed) (s : Result (Unit {0}) CutFault) → s ≡ stopped_result r → k ≡ n → n ≤ room a → OnOk r (Moved k a b) → OnErr r (Stopped a b) → GoesOn n at a b s
+pub goes_on : (n k at : ℕ) (a b : Standing) (r : Result (Unit {0}) Failed) (s : Result (Unit {0}) CutFault) → s ≡ stopped_result r → k ≡ n → n ≤ room a → OnOk r (Moved k a b) → OnErr r (Stopped k a b) → GoesOn n at a b s
 goes_on n k at a b (Ok u) s is same fits moved stopped = rw (is, ← same) moved
-goes_on n k at a b (Err e) s is same fits moved stopped = rw is (fits, stopped)
+goes_on n k at a b (Err e) s is same fits moved stopped = rw (is, ← same) (rw same fits, stopped)

@@ -10,7 +10,6 @@ use Rattle.xt_shapes.specs.declared.leaves.Order.{Order}
 use Rattle.xt_shapes.specs.declared.leaves.Order.TheVariants.{Big, Little}
 use Rattle.xcdr_model.specs.Numbers.{low_octets, octets, raw}
 use Rattle.xt_wire.specs.numbers.Units.{IsUnit}
-use Rattle.xt_wire.proofs.OfNumbers.UnitSteps.{unit_small}
 
 length-low_octets : (k n : ℕ) → length (low_octets k n) ≡ k
 length-low_octets zero n = refl

@@ -1,5 +1,5 @@
 -- What it means that a call on a cursor reads as a reading of lists says (this profile's own).
-use Rattle.std.specs.Prelude.{◌≡◌, ℕ, ◌+◌, ◌-◌, ◌≤◌, List, take, drop, Some, Result, Ok, Err}
+use Rattle.std.specs.Prelude.{◌≡◌, ℕ, ◌+◌, ◌-◌, ◌≤◌, max, List, take, drop, Some, Result, Ok, Err}
 use Rattle.std.specs.Option.{option_map}
 use Rattle.xt_outside.specs.Outside.{Rose}
 use Rattle.xt_shapes.specs.declared.leaves.Order.{Order}
@@ -76,3 +76,4 @@ pub record Left (n : ℕ) (a b : Standing) : Type 0 where
   pub origin : b.origin ≡ a.origin
   pub order : b.order ≡ a.order
   pub ahead : b.ahead ≡ option_map (drop (room a)) a.ahead
+  pub reach : b.reach ≤ max a.reach b.place

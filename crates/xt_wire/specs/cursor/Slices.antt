@@ -6,10 +6,10 @@ use Rattle.xt_wire.specs.cursor.Standing.{Standing, Stands}
 use Rattle.xt_wire.specs.declared.cursor.slice.SliceCursor.{SliceCursor}
 
 abbrev pub slice_state : SliceCursor → Standing
-slice_state c = record { place = c.place; region_end = c.end; whole = length c.octets.now; origin = c.origin; order = c.order; ahead = Some (drop c.place c.octets.now); faults = 0; name = 0 }
+slice_state c = record { place = c.place; region_end = c.end; whole = length c.octets.now; origin = c.origin; order = c.order; ahead = Some (drop c.place c.octets.now); faults = 0; name = 0; reach = c.place }
 
 abbrev pub at_start : List ℕ → Standing
-at_start octets = record { place = 0; region_end = length octets; whole = length octets; origin = 0; order = Little; ahead = Some octets; faults = 0; name = 0 }
+at_start octets = record { place = 0; region_end = length octets; whole = length octets; origin = 0; order = Little; ahead = Some octets; faults = 0; name = 0; reach = 0 }
 
 octets_in : Option (List ℕ) → List ℕ
 octets_in None = []

@@ -1,5 +1,5 @@
 -- Where a cursor stands, and what its calls do to that (this profile's own).
-use Rattle.std.specs.Prelude.{◌≡◌, ℕ, ◌+◌, ◌-◌, ◌^◌, ◌<◌, ◌≤◌, List, length, take, drop, Some, Result, Ok, Err, OnOk, IfSome}
+use Rattle.std.specs.Prelude.{◌≡◌, ℕ, ◌+◌, ◌-◌, ◌^◌, ◌<◌, ◌≤◌, List, max, length, take, drop, Some, Result, Ok, Err, OnOk, IfSome}
 use Rattle.std.specs.declared.option.Option.{Option}
 use Rattle.std.specs.Option.{option_map}
 use Rattle.xt_outside.specs.Outside.{Rose}
@@ -9,7 +9,9 @@ use Rattle.xt_wire.specs.declared.cursor.cursor.CutFault.{CutFault}
 use Rattle.xt_wire.specs.declared.cursor.cursor.CutFault.TheVariants.{Short, Fault}
 use Rattle.xt_wire.specs.declared.cursor.cursor.Outer.{Outer}
 
--- Places are counted from the first octet of all. `ahead` is the octets from the place to the end of all, where they are told.
+-- Places are counted from the first octet of all. `ahead` is the octets from the place to the end of all, where they are told. `reach` is where
+-- the last of the octets ends that were taken from below, as from a reader: it is ahead of the place only where octets are held that will be
+-- given again.
 pub record Standing : Type 0 where
   pub place : ℕ
   pub region_end : ℕ
@@ -19,6 +21,7 @@ pub record Standing : Type 0 where
   pub ahead : Option (List ℕ)
   pub faults : ℕ
   pub name : ℕ
+  pub reach : ℕ
 
 pub record Stands (a : Standing) : Type 0 where
   pub in_region : a.place ≤ a.region_end
@@ -41,12 +44,13 @@ pub record Along (a b : Standing) : Type 0 where
   pub name : b.name ≡ a.name
   pub faults : a.faults ≤ b.faults
 
--- the same region too
+-- the same region too, and nothing more is held than was before
 pub record Within (a b : Standing) : Type 0 where
   pub along : Along a b
   pub region_end : b.region_end ≡ a.region_end
   pub origin : b.origin ≡ a.origin
   pub order : b.order ≡ a.order
+  pub reach : b.reach ≤ max a.reach b.place
 
 -- The place stays within the region, whatever became of the region: it is not past the end that the region had. (Each cursor stands in its region.)
 abbrev pub StaysInside : Standing → Standing → Type 0
@@ -65,10 +69,11 @@ pub record Stayed (a b : Standing) : Type 0 where
   pub place : b.place ≡ a.place
   pub ahead : b.ahead ≡ a.ahead
 
--- the device failed somewhere after the place, in the same region
-pub record Stopped (a b : Standing) : Type 0 where
+-- the device failed within the next n octets, in the same region
+pub record Stopped (n : ℕ) (a b : Standing) : Type 0 where
   pub within : Within a b
   pub later : a.place ≤ b.place
+  pub few : b.place ≤ a.place + n
   pub rose : Rose a.faults b.faults
 
 pub record IsShort (n p : ℕ) (a b : Standing) (said : ℕ) : Type 0 where
@@ -79,7 +84,7 @@ pub record IsShort (n p : ℕ) (a b : Standing) (said : ℕ) : Type 0 where
 abbrev pub GoesOn : {T : Type 0} → ℕ → ℕ → Standing → Standing → Result T CutFault → Type 0
 GoesOn n at a b (Ok u) = Moved n a b
 GoesOn n at a b (Err (Short said)) = IsShort n at a b said
-GoesOn n at a b (Err Fault) = (n ≤ room a) × Stopped a b
+GoesOn n at a b (Err Fault) = (n ≤ room a) × Stopped n a b
 
 -- the octets that were read are those ahead
 abbrev pub Gives : {T : Type 0} → Standing → List ℕ → Result T CutFault → Type 0
@@ -91,17 +96,6 @@ IsKept old new (Ok u) = Unit {0}
 IsKept old new (Err (Short said)) = new ≡ old
 IsKept old new (Err Fault) = Unit {0}
 
--- the next four octets are those ahead
-pub record Peeked (a b : Standing) (octets : List ℕ) : Type 0 where
-  pub fits : 4 ≤ room a
-  pub stayed : Stayed a b
-  pub told : IfSome a.ahead (λ xs. octets ≡ take 4 xs)
-
-abbrev pub Peeks : Standing → Standing → Result (List ℕ) CutFault → Type 0
-Peeks a b (Ok octets) = Peeked a b octets
-Peeks a b (Err (Short said)) = IsShort 4 a.place a b said
-Peeks a b (Err Fault) = (4 ≤ room a) × Stopped a b
-
 -- the next n octets are the region
 pub record Entered (n : ℕ) (a b : Standing) (x : Outer) : Type 0 where
   pub along : Along a b
@@ -112,11 +106,12 @@ pub record Entered (n : ℕ) (a b : Standing) (x : Outer) : Type 0 where
   pub ahead : b.ahead ≡ a.ahead
   pub origin : b.origin ≡ a.origin
   pub order : b.order ≡ a.order
+  pub reach : b.reach ≡ a.reach
 
 abbrev pub IsEntered : ℕ → Standing → Standing → Result Outer CutFault → Type 0
 IsEntered n a b (Ok outer) = Entered n a b outer
 IsEntered n a b (Err (Short said)) = IsShort n a.place a b said
-IsEntered n a b (Err Fault) = (n ≤ room a) × Stopped a b
+IsEntered n a b (Err Fault) = (n ≤ room a) × Stopped n a b
 
 -- the region ends at that place
 pub record HasEnd (n : ℕ) (a b : Standing) : Type 0 where
@@ -126,6 +121,7 @@ pub record HasEnd (n : ℕ) (a b : Standing) : Type 0 where
   pub ahead : b.ahead ≡ a.ahead
   pub origin : b.origin ≡ a.origin
   pub order : b.order ≡ a.order
+  pub reach : b.reach ≡ a.reach
 
 pub record HasOrigin (n : ℕ) (a b : Standing) : Type 0 where
   pub along : Along a b
@@ -134,6 +130,7 @@ pub record HasOrigin (n : ℕ) (a b : Standing) : Type 0 where
   pub ahead : b.ahead ≡ a.ahead
   pub origin : b.origin ≡ n
   pub order : b.order ≡ a.order
+  pub reach : b.reach ≡ a.reach
 
 pub record HasOrder (o : Order) (a b : Standing) : Type 0 where
   pub along : Along a b
@@ -142,3 +139,4 @@ pub record HasOrder (o : Order) (a b : Standing) : Type 0 where
   pub ahead : b.ahead ≡ a.ahead
   pub origin : b.origin ≡ a.origin
   pub order : b.order ≡ o
+  pub reach : b.reach ≡ a.reach

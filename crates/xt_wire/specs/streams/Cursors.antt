@@ -1,5 +1,5 @@
 -- Where a cursor over a reader's payload stands (this profile's own).
-use Rattle.std.specs.Prelude.{◌≡◌, ◌≢◌, ℕ, ◌+◌, ◌-◌, ◌≤◌, ◌⊎◌, ◌==◌, Bool, true, false, List, [], length, drop, if◌then◌else◌, Option, Some, None, IfSome}
+use Rattle.std.specs.Prelude.{◌≡◌, ◌≢◌, ℕ, ◌-◌, ◌≤◌, ◌⊎◌, ◌==◌, Bool, true, false, List, [], length, drop, if◌then◌else◌, Option, Some, None, IfSome}
 use Rattle.std.proofs.Common.{refl, sym, ap, ◌∙◌, subst, length-drop, eqb-true}
 use Rattle.std.specs.Option.{option_map}
 use Rattle.xt_shapes.specs.declared.leaves.Order.TheVariants.{Little}
@@ -13,7 +13,7 @@ use Rattle.xt_wire.specs.streams.Streams.{all_of, payload_of, faults_of, IsRest,
 use Rattle.xt_wire.specs.declared.streams.cursor.StreamCursor.{StreamCursor}
 
 abbrev pub stream_state : {X : Type 0} {G : Ghosts X} → StreamCursor X G → Standing
-stream_state c = record { place = c.place; region_end = c.end; whole = c.payload.whole; origin = c.origin; order = c.order; ahead = option_map (drop c.place) (payload_of c.payload); faults = faults_of c.payload; name = mark_of c.payload.began }
+stream_state c = record { place = c.payload.read; region_end = c.end; whole = c.payload.whole; origin = c.origin; order = c.order; ahead = option_map (drop c.payload.read) (payload_of c.payload); faults = faults_of c.payload; name = mark_of c.payload.began; reach = c.payload.read }
 
 octets_in : Option (List ℕ) → List ℕ
 octets_in None = []
@@ -39,30 +39,25 @@ stream_stands c = record {
   in_whole = c.in_whole;
   from_origin = c.from_origin;
   fits = c.fits;
-  told = told_length c.payload.whole c.place (inside c.payload.began);
+  told = told_length c.payload.whole c.payload.read (inside c.payload.began);
 }
 
 -- a cursor at the first octet of a payload of this length
 abbrev pub stream_start : ℕ → Reading → Standing
-stream_start n reader = record { place = 0; region_end = n; whole = n; origin = 0; order = Little; ahead = all_of n (inside reader); faults = reader.faults; name = mark_of reader }
+stream_start n reader = record { place = 0; region_end = n; whole = n; origin = 0; order = Little; ahead = all_of n (inside reader); faults = reader.faults; name = mark_of reader; reach = 0 }
 
--- how many octets after the place were read from the reader already: those that a `peek` read and that were not taken or passed over since
-abbrev pub held_count : {X : Type 0} {G : Ghosts X} → StreamCursor X G → ℕ
-held_count c = c.to - c.from
-
--- What a reader keeps of the one that the cursor was made of, where the cursor stands as said and holds n octets after its place.
-pub record Resumes (n : ℕ) (began : Reading) (at : Standing) (now : Reading) : Type 0 where
-  pub few : n ≤ 4
-  pub within : at.place + n ≤ at.whole
+-- What a reader keeps of the one that the cursor was made of, where the cursor stands as said.
+pub record Resumes (began : Reading) (at : Standing) (now : Reading) : Type 0 where
+  pub within : at.place ≤ at.whole
   pub name : now.name ≡ began.name
   pub follow : now.may_follow ≡ began.may_follow
   -- the records behind the payload, unless a read failed
   pub behind : now.fault ≢ Some ReadFault → KeepsTold began.ahead now.ahead
-  -- what is left of the payload: what is after the octets that are held
-  pub octets : IfSome at.ahead (λ octets. inside now ≡ Some (drop n octets))
+  -- what is left of the payload: what is after the place
+  pub octets : IfSome at.ahead (λ octets. inside now ≡ Some octets)
   -- the octets of the payload up to there are told where any are: where the input ends inside it, no cursor passes that end
-  pub enough : IfSome (inside began) (λ octets. (inside now ≡ Some (drop (at.place + n) octets)) × (at.place + n ≤ length octets))
-  pub pending : now.fault ≡ None → IsRest (at.whole - at.place - n) began.pending now.pending
+  pub enough : IfSome (inside began) (λ octets. (inside now ≡ Some (drop at.place octets)) × (at.place ≤ length octets))
+  pub pending : now.fault ≡ None → IsRest (at.whole - at.place) began.pending now.pending
   -- the fault that the reader answers next: a read failed, and its count rose, or the input ended inside the payload
   pub fault : IfSome now.fault (λ fault. (fault ≡ ReadFault) ⊎ IsCutOf began.pending fault)
   -- but for a failed read, a fault is met only where the payload is cut
@@ -75,5 +70,5 @@ pub record Resumes (n : ℕ) (began : Reading) (at : Standing) (now : Reading) :
   pub sure : IfSome at.ahead (λ octets. at.faults ≡ now.faults)
 
 -- the same for the reader that the cursor was made of: the one of the name at which it stands
-abbrev pub Ends : ℕ → Standing → Reading → Type 0
-Ends n at now = (began : Reading) → mark_of began ≡ at.name → Resumes n began at now
+abbrev pub Ends : Standing → Reading → Type 0
+Ends at now = (began : Reading) → mark_of began ≡ at.name → Resumes began at now

@@ -1,5 +1,5 @@
 ghost use Rattle.std.specs.Prelude.{◌≡◌, ◌≤◌, ◌<◌, ◌-◌, ℕ, length, min};
-ghost use Rattle.xt_wire.specs.cursor.Standing.{Standing, Stands, GoesOn, Gives, IsKept, Peeks, IsEntered, HasEnd, HasOrigin, HasOrder, pad_of};
+ghost use Rattle.xt_wire.specs.cursor.Standing.{Standing, Stands, GoesOn, Gives, IsKept, IsEntered, HasEnd, HasOrigin, HasOrder, pad_of};
 ghost use Rattle.xt_wire.specs.numbers.Units.{IsUnit};
 
 use thiserror::Error;
@@ -53,10 +53,6 @@ pub trait Cursor {
         ensures moves { GoesOn (length into.new) (state self.old).place (state self.old) (state self.new) result }
         ensures octets { Gives (state self.old) into.new result }
         ensures short { IsKept into.old into.new result };
-
-    /// The next four octets, before which the cursor stays.
-    fn peek(&mut self) -> Result<[u8; 4], CutFault>
-        ensures { Peeks (state self.old) (state self.new) result };
 
     /// Goes this many octets on.
     fn pass(&mut self, count: u64) -> Result<(), CutFault>

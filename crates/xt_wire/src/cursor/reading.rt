@@ -1,5 +1,5 @@
 // What decoders read: a cursor's calls, and numbers.
-ghost use Rattle.std.specs.Prelude.{◌≡◌, ◌≤◌, ◌<◌, ◌^◌, length, min, IfOk, IfErr, OnOk};
+ghost use Rattle.std.specs.Prelude.{◌≡◌, ◌≤◌, ◌<◌, ◌+◌, ◌^◌, length, min, IfOk, IfErr, OnOk};
 ghost use Rattle.xt_wire.specs.numbers.Units.{IsUnit};
 ghost use Rattle.xt_wire.specs.cursor.Standing.{Entered, room};
 ghost use Rattle.xt_wire.specs.cursor.Decoding.{Decodes, Fails, Left};
@@ -38,7 +38,8 @@ pub fn read_octets<C: Cursor>(cursor: &mut C, into: &mut [u8]) -> Result<(), Dec
 
 /// Passes over octets.
 pub fn read_pass<C: Cursor>(cursor: &mut C, count: u64) -> Result<(), DecodeFault>
-    ensures { Decodes (λ u. u) (pass_at count) (C.state cursor.old) (C.state cursor.new) result }
+    ensures behind { OnOk result ((C.state cursor.new).place ≡ (C.state cursor.old).place + count) }
+    ensures value { Decodes (λ u. u) (pass_at count) (C.state cursor.old) (C.state cursor.new) result }
 {
     match cursor.pass(count) {
         Ok(()) => Ok(()),

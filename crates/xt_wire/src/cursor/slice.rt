@@ -81,17 +81,6 @@ impl<'a> Cursor for SliceCursor<'a> {
         Ok(())
     }
 
-    fn peek(&mut self) -> Result<[u8; 4], CutFault> {
-        if self.end - self.place < 4 {
-            return Err(CutFault::Short {
-                at: self.place as u64,
-            });
-        }
-        let mut next = [0u8; 4];
-        next.copy_from_slice(&self.octets[self.place..self.place + 4]);
-        Ok(next)
-    }
-
     fn pass(&mut self, count: u64) -> Result<(), CutFault> {
         if ((self.end - self.place) as u64) < count {
             return Err(CutFault::Short {

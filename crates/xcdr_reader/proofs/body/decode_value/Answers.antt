@@ -1,46 +1,30 @@
-use Rattle.std.proofs.lemmas.Result.{err_from_is_err_and}
+use Rattle.std.proofs.Common.{rules, subst}
 use Rattle.type_trees.specs.Bridge.{type_shape}
-use Rattle.xcdr_model.specs.Samples.{outcome_of}
-use Rattle.settled_parts.specs.Parts.{part_of}
 use Rattle.settled_parts.specs.Settling.{outcome_val}
-use Rattle.xt_wire.proofs.OfCursor.Ahead.{goes_on, fails, ends}
-use Rattle.xt_wire.proofs.OfCursor.Outcomes.{comes_typed, comes_light}
-use Rattle.xcdr_reader.specs.Bodies.{value_end}
-use Rattle.xcdr_reader.specs.Modes.{read_in, mode_of}
-use Rattle.xcdr_reader.proofs.Values.{made, ended_outcome, outcome_begin}
+use Rattle.xt_wire.specs.cursor.Standing.{Standing}
+use Rattle.xt_wire.specs.cursor.Decoding.{Decodes}
+use Rattle.xcdr_steps.specs.again.Rereading.{rereading_state}
+use Rattle.xcdr_steps.proofs.OfAgain.Back.{back}
+use Rattle.xcdr_reader.specs.Bodies.{value_outcome}
+use Rattle.xcdr_reader.proofs.Values.{comes_typed_if, comes_light_if}
 use Rattle.xcdr_reader.proofs.body.decode_value.Goals as goal
-
-pub returns-in_err-part-clause-value : goal.returns-in_err-part-clause-value
-returns-in_err-part-clause-value g c =
-    let t = type_shape c.args.reader.now in
-    let r = c.args.rep in
-    let p = err_from_is_err_and c.from_residual.result c.from_residual.ensures.1 in
-    rw (p.1, p.2) (fails part_of outcome_val (λ o s. read_in (mode_of r) o t s) (ended_outcome r t) (outcome_begin r t (g.C.Cursor.state c.args.cursor.now)) (rw c.of.ensures at c.in_err-part.ensures))
-
-pub returns-in_err-end_value-clause-value : goal.returns-in_err-end_value-clause-value
-returns-in_err-end_value-clause-value g c =
-    let t = type_shape c.args.reader.now in
-    let r = c.args.rep in
-    let p = err_from_is_err_and c.from_residual-in_err-end_value.result c.from_residual-in_err-end_value.ensures.1 in
-    let u = goes_on part_of (λ o s. read_in (mode_of r) o t s) (ended_outcome r t) (outcome_begin r t (g.C.Cursor.state c.args.cursor.now)) (rw c.of.ensures at c.in_ok-part.ensures) in
-    rw (p.1, p.2) (fails (λ u. u) outcome_val (value_end r t) (made (part_of c.in_ok-part.part)) u c.in_err-end_value.ensures)
 
 pub returns-clause-value : goal.returns-clause-value
 returns-clause-value g c =
-    let t = type_shape c.args.reader.now in
-    let r = c.args.rep in
-    let u = goes_on part_of (λ o s. read_in (mode_of r) o t s) (ended_outcome r t) (outcome_begin r t (g.C.Cursor.state c.args.cursor.now)) (rw c.of.ensures at c.in_ok-part.ensures) in
-    let v = goes_on (λ u. u) (value_end r t) (made (part_of c.in_ok-part.part)) u c.in_ok-end_value.ensures in
-    ends outcome_val (λ o. outcome_of (part_of c.in_ok-part.part)) v c.outcome.ensures
+    let a = g.C.Cursor.state c.args.cursor.now in
+    let again = c.read_value.new.cursor in
+    let f = value_outcome c.args.rep (type_shape c.args.reader.now) in
+    let d = subst (λ (s : Standing). Decodes outcome_val f s (rereading_state again) c.read_value.result) c.new-again.ensures.state c.read_value.ensures in
+    back outcome_val f _ a _ again c.read_value.result _ (search rules) c.new-again.ensures.stayed (g.met.C.Cursor.stands again.inner.now) d
 
 pub returns-clause-typed : goal.returns-clause-typed
 returns-clause-typed g c =
     let t = type_shape c.args.reader.now in
     let kept = c.shape_keeps_rules.ensures _ c.requires in
-    comes_typed outcome_val c.args.rep t (λ o s s2 v u small is. c.value_typed.ensures c.args.rep o t s s2 v u kept small is) (returns-clause-value g c)
+    comes_typed_if outcome_val c.args.rep t _ (λ o s s2 v u small is. c.value_typed.ensures c.args.rep o t s s2 v u kept small is) (returns-clause-value g c)
 
 pub returns-clause-light : goal.returns-clause-light
 returns-clause-light g c =
     let t = type_shape c.args.reader.now in
     let kept = c.shape_keeps_rules.ensures _ c.requires in
-    comes_light outcome_val c.args.rep t (g.met.C.Cursor.stands c.args.cursor.now) (g.met.C.Cursor.stands c.read_part.new.cursor) (λ o s s2 v u is. c.value_nodes_bound.ensures c.args.rep o t s s2 v u kept is) (returns-clause-value g c)
+    comes_light_if outcome_val c.args.rep t _ (g.met.C.Cursor.stands c.args.cursor.now) (g.met.C.Cursor.stands _) (λ o s s2 v u is. c.value_nodes_bound.ensures c.args.rep o t s s2 v u kept is) (returns-clause-value g c)

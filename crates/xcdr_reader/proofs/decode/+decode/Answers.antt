@@ -34,6 +34,7 @@ use Rattle.xcdr_steps.specs.declared.reading.choices.Choice.{Choice}
 use Rattle.xcdr_steps.specs.reading.Cases.{choice}
 use Rattle.xcdr_steps.specs.reading.Counts.{counted}
 use Rattle.xcdr_steps.specs.reading.Headings.{next_view}
+use Rattle.xcdr_steps.proofs.OfAgain.Unheld.{stands_unheld, read_behind, unread_behind, unread_now, read_now}
 use Rattle.xcdr_steps.proofs.OfOne.ContentSteps.{content_fails, content_ends, content_unended, content_unopened, may_close as may_close_content}
 use Rattle.xcdr_reader.specs.declared.modes.Mode.{Mode}
 use Rattle.xcdr_reader.specs.declared.modes.Mode.TheVariants.{Two}
@@ -217,7 +218,7 @@ read_slot-returns-in_err-part-in-Content g t c =
     let u = goes_on (λ x. x) (coming_at c.args.mode c.args.cut m.optional m.id) (more_behind c.args.mode h T so) (more_begin c.args.mode c.args.cut h T so a) c.in_ok-read_coming.ensures.value in
     let v : told c.args.mode c.args.cut (Content n) h T so a (g.C.Cursor.state c.read_coming.new.cursor) = rw c.in-Content.is at u in
     let p = err_from_is_err_and c.from_residual-in_err-part-in-Content.result c.from_residual-in_err-part-in-Content.ensures.1 in
-    rw (p.1, p.2) (fails part_of (λ u. so) (content_in c.args.mode n T) (more_made h T so) (more_content c.args.mode h T n so v) c.in_err-part-in-Content.ensures)
+    rw (p.1, p.2) (fails part_of (λ u. so) (content_in c.args.mode n T) (more_made h T so) (more_content c.args.mode h T n so v) c.in_err-part-in-Content.ensures.value)
 
 pub read_slot-returns-in_ok-take_part-in-Content : goal.read_slot-returns-in_ok-take_part-in-Content
 read_slot-returns-in_ok-take_part-in-Content g t c =
@@ -229,7 +230,7 @@ read_slot-returns-in_ok-take_part-in-Content g t c =
     let n = c.in-Content.length in
     let u = goes_on (λ x. x) (coming_at c.args.mode c.args.cut m.optional m.id) (more_behind c.args.mode h T so) (more_begin c.args.mode c.args.cut h T so a) c.in_ok-read_coming.ensures.value in
     let v : told c.args.mode c.args.cut (Content n) h T so a (g.C.Cursor.state c.read_coming.new.cursor) = rw c.in-Content.is at u in
-    let w = goes_on part_of (content_in c.args.mode n T) (more_made h T so) (more_content c.args.mode h T n so v) c.in_ok-part-in-Content.ensures in
+    let w = goes_on part_of (content_in c.args.mode n T) (more_made h T so) (more_content c.args.mode h T n so v) c.in_ok-part-in-Content.ensures.value in
     ends (λ u. slots_of c.take_part-in-Content.new.self) (λ o. and_slot so (slot_part h T (Some (part_of c.in_ok-part-in-Content.part)))) w c.in_ok-take_part-in-Content.ensures
 
 -- ---- members of a region that may end before the last
@@ -312,41 +313,41 @@ read_entries-returns g t c =
 
 -- ---- a content, which is all of its region
 
-pub read_filled-returns-in_err-outer : goal.read_filled-returns-in_err-outer
-read_filled-returns-in_err-outer g t c =
+pub read_filled-returns-in_err-outer-clause-value : goal.read_filled-returns-in_err-outer-clause-value
+read_filled-returns-in_err-outer-clause-value g t c =
     let f = λ (o : Order) (s : Spot). filling c.args.length (λ s1. read o (type_shape c.args.ty.now) s1) s in
     let p = err_from_is_err_and c.from_residual.result c.from_residual.ensures.1 in
     rw (p.1, p.2) (read_fault {f = f} {k = f} part_of (begins f f (g.C.Cursor.state c.args.cursor.now) (λ s. refl)) c.in_err-outer.ensures.fault)
 
-pub read_filled-returns-in_err-part : goal.read_filled-returns-in_err-part
-read_filled-returns-in_err-part g t c =
+pub read_filled-returns-in_err-part-clause-value : goal.read_filled-returns-in_err-part-clause-value
+read_filled-returns-in_err-part-clause-value g t c =
     let p = err_from_is_err_and c.from_residual-in_err-part.result c.from_residual-in_err-part.ensures.1 in
     rw (p.1, p.2) (filled_fails part_of part_of (value_at Two (type_shape c.args.ty.now)) c.args.length (g.C.Cursor.state c.args.cursor.now) (g.C.Cursor.state c.enter_part.new.cursor) (g.C.Cursor.state c.read_part.new.cursor) c.in_ok-outer.outer _ (g.met.C.Cursor.stands c.args.cursor.now) c.in_ok-outer.ensures.entered c.in_err-part.ensures)
 
 pub read_filled-close_frame-requires : goal.read_filled-close_frame-requires
 read_filled-close_frame-requires g t c = may_leave c.args.length (g.C.Cursor.state c.args.cursor.now) (g.C.Cursor.state c.enter_part.new.cursor) (g.C.Cursor.state c.read_part.new.cursor) c.in_ok-outer.outer (g.met.C.Cursor.stands c.args.cursor.now) c.in_ok-outer.ensures.entered c.in_ok-part.ensures.within
 
-pub read_filled-returns-in_err-close_frame : goal.read_filled-returns-in_err-close_frame
-read_filled-returns-in_err-close_frame g t c =
+pub read_filled-returns-in_err-close_frame-clause-value : goal.read_filled-returns-in_err-close_frame-clause-value
+read_filled-returns-in_err-close_frame-clause-value g t c =
     let p = err_from_is_err_and c.from_residual-in_err-close_frame.result c.from_residual-in_err-close_frame.ensures.1 in
     rw (p.1, p.2) (content_stops {t = c.in_ok-part.part} part_of (value_at Two (type_shape c.args.ty.now)) c.args.length (g.C.Cursor.state c.args.cursor.now) (g.C.Cursor.state c.enter_part.new.cursor) (g.C.Cursor.state c.read_part.new.cursor) (g.C.Cursor.state c.close_frame.new.cursor) c.in_ok-outer.outer _ (g.met.C.Cursor.stands c.args.cursor.now) (g.met.C.Cursor.stands c.read_part.new.cursor) c.in_ok-outer.ensures.entered c.in_ok-part.ensures c.in_err-close_frame.ensures)
 
-pub read_filled-returns : goal.read_filled-returns
-read_filled-returns g t c = filled_closes part_of (value_at Two (type_shape c.args.ty.now)) c.args.length (g.C.Cursor.state c.args.cursor.now) (g.C.Cursor.state c.enter_part.new.cursor) (g.C.Cursor.state c.read_part.new.cursor) (g.C.Cursor.state c.close_frame.new.cursor) c.in_ok-outer.outer (g.met.C.Cursor.stands c.args.cursor.now) (g.met.C.Cursor.stands c.read_part.new.cursor) c.in_ok-outer.ensures.entered c.in_ok-part.ensures c.in_ok-close_frame.ensures
+pub read_filled-returns-clause-value : goal.read_filled-returns-clause-value
+read_filled-returns-clause-value g t c = filled_closes part_of (value_at Two (type_shape c.args.ty.now)) c.args.length (g.C.Cursor.state c.args.cursor.now) (g.C.Cursor.state c.enter_part.new.cursor) (g.C.Cursor.state c.read_part.new.cursor) (g.C.Cursor.state c.close_frame.new.cursor) c.in_ok-outer.outer (g.met.C.Cursor.stands c.args.cursor.now) (g.met.C.Cursor.stands c.read_part.new.cursor) c.in_ok-outer.ensures.entered c.in_ok-part.ensures c.in_ok-close_frame.ensures
 
 -- ---- a content with an origin of its own
 
 abbrev tail_at : Shape → Order → Spot → Reading model.Part
 tail_at t o s = read1 true o t s
 
-pub read_parameter_content-returns-in_err-content : goal.read_parameter_content-returns-in_err-content
-read_parameter_content-returns-in_err-content g t c =
+pub read_parameter_content-returns-in_err-content-clause-value : goal.read_parameter_content-returns-in_err-content-clause-value
+read_parameter_content-returns-in_err-content-clause-value g t c =
     let T = type_shape c.args.ty.now in
     let p = err_from_is_err_and c.from_residual.result c.from_residual.ensures.1 in
     rw (p.1, p.2) (content_unopened part_of (tail_at T) c.args.length (not (is_open T)) c.in_err-content.ensures.fault)
 
-pub read_parameter_content-returns-in_err-part : goal.read_parameter_content-returns-in_err-part
-read_parameter_content-returns-in_err-part g t c =
+pub read_parameter_content-returns-in_err-part-clause-value : goal.read_parameter_content-returns-in_err-part-clause-value
+read_parameter_content-returns-in_err-part-clause-value g t c =
     let T = type_shape c.args.ty.now in
     let p = err_from_is_err_and c.from_residual-in_err-part.result c.from_residual-in_err-part.ensures.1 in
     rw (p.1, p.2) (content_fails part_of part_of (tail_at T) c.args.length (not (is_open T)) (g.C.Cursor.state c.args.cursor.now) (g.C.Cursor.state c.open_content.new.cursor) (g.C.Cursor.state c.read_part.new.cursor) c.in_ok-content.content _ (g.met.C.Cursor.stands c.args.cursor.now) c.in_ok-content.ensures.opened c.in_err-part.ensures)
@@ -354,21 +355,21 @@ read_parameter_content-returns-in_err-part g t c =
 pub read_parameter_content-close_content-requires : goal.read_parameter_content-close_content-requires
 read_parameter_content-close_content-requires g t c = may_close_content (g.met.C.Cursor.stands c.args.cursor.now) c.in_ok-content.ensures.opened c.in_ok-part.ensures.within c.in_ok-part.ensures.later
 
-pub read_parameter_content-returns-in_err-close_content : goal.read_parameter_content-returns-in_err-close_content
-read_parameter_content-returns-in_err-close_content g t c =
+pub read_parameter_content-returns-in_err-close_content-clause-value : goal.read_parameter_content-returns-in_err-close_content-clause-value
+read_parameter_content-returns-in_err-close_content-clause-value g t c =
     let T = type_shape c.args.ty.now in
     let p = err_from_is_err_and c.from_residual-in_err-close_content.result c.from_residual-in_err-close_content.ensures.1 in
     rw (p.1, p.2) (content_unended {t = c.in_ok-part.part} part_of (tail_at T) c.args.length (not (is_open T)) (g.C.Cursor.state c.args.cursor.now) (g.C.Cursor.state c.open_content.new.cursor) (g.C.Cursor.state c.read_part.new.cursor) (g.C.Cursor.state c.close_content.new.cursor) c.in_ok-content.content _ (g.met.C.Cursor.stands c.args.cursor.now) (g.met.C.Cursor.stands c.read_part.new.cursor) c.in_ok-content.ensures.opened c.in_ok-part.ensures (rw c.spare_of.ensures at c.in_err-close_content.ensures))
 
-pub read_parameter_content-returns : goal.read_parameter_content-returns
-read_parameter_content-returns g t c =
+pub read_parameter_content-returns-clause-value : goal.read_parameter_content-returns-clause-value
+read_parameter_content-returns-clause-value g t c =
     let T = type_shape c.args.ty.now in
     content_ends part_of (tail_at T) c.args.length (not (is_open T)) (g.C.Cursor.state c.args.cursor.now) (g.C.Cursor.state c.open_content.new.cursor) (g.C.Cursor.state c.read_part.new.cursor) (g.C.Cursor.state c.close_content.new.cursor) c.in_ok-content.content c.in_ok-part.part (g.met.C.Cursor.stands c.args.cursor.now) (g.met.C.Cursor.stands c.read_part.new.cursor) c.in_ok-content.ensures.opened c.in_ok-part.ensures (rw c.spare_of.ensures at c.in_ok-close_content.ensures)
 
 -- ---- a value that has the rest of the region
 
 pub read_whole-returns-then-fills : goal.read_whole-returns-then-fills
-read_whole-returns-then-fills g t c = rest_filled c.args.mode c.args.filled (type_shape c.args.ty.now) _ (g.met.C.Cursor.stands c.args.cursor.now) (sym c.if-fills.ensures) (ap₂ (λ (x y : ℕ). x - y) c.region_end.ensures c.place.ensures) c.read_content.ensures
+read_whole-returns-then-fills g t c = rest_filled c.args.mode c.args.filled (type_shape c.args.ty.now) _ (g.met.C.Cursor.stands c.args.cursor.now) (sym c.if-fills.ensures) (ap₂ (λ (x y : ℕ). x - y) c.region_end.ensures c.place.ensures) c.read_content.ensures.value
 
 pub read_whole-returns : goal.read_whole-returns
 read_whole-returns g t c = own_whole c.args.mode c.args.filled (type_shape c.args.ty.now) (sym c.if-fills.ensures) c.read_part.ensures
@@ -459,7 +460,7 @@ read_piece-returns-in_err-place g t c =
     let a = g.C.Cursor.state c.args.cursor.now in
     let h = c.args.header in
     let p = err_from_is_err_and c.from_residual.result c.from_residual.ensures.1 in
-    rw (p.1, p.2, c.in_err-place.ensures.place.0) (record { new = tt; within = tt; value = malformed piece_of (λ s. h.at - a.origin) why.Twice (piece_twice c.args.mode ms c.args.known.now h a c.in_err-place.ensures.place.1) (λ xs. omega (arith, c.requires.at)) })
+    rw (p.1, p.2, c.in_err-place.ensures.place.0) (record { new = tt; within = tt; behind = tt; value = malformed piece_of (λ s. h.at - a.origin) why.Twice (piece_twice c.args.mode ms c.args.known.now h a c.in_err-place.ensures.place.1) (λ xs. omega (arith, c.requires.at)) })
 
 pub read_piece-returns-in_err-part-in-Some-clause-value : goal.read_piece-returns-in_err-part-in-Some-clause-value
 read_piece-returns-in_err-part-in-Some-clause-value g t c =
@@ -468,7 +469,7 @@ read_piece-returns-in_err-part-in-Some-clause-value g t c =
     let m = get_or c.args.members.now c.in-Some.at d in
     let h = c.args.header in
     let p = err_from_is_err_and c.from_residual-in_err-part-in-Some.result c.from_residual-in_err-part-in-Some.ensures.1 in
-    rw (p.1, p.2) (fails part_of piece_of (content_in c.args.mode h.length (type_shape m.ty)) (kept_piece h.id) (piece_kept c.args.mode c.args.members.now c.args.known.now h (g.C.Cursor.state c.args.cursor.now) c.in-Some.at d there.0 there.1 (rw c.in-Some.is at c.in_ok-place.ensures.within)) (content_of_member c.args.mode h.length d m c.index-members-at.is c.in_err-part-in-Some.ensures))
+    rw (p.1, p.2) (fails part_of piece_of (content_in c.args.mode h.length (type_shape m.ty)) (kept_piece h.id) (piece_kept c.args.mode c.args.members.now c.args.known.now h (g.C.Cursor.state c.args.cursor.now) c.in-Some.at d there.0 there.1 (rw c.in-Some.is at c.in_ok-place.ensures.within)) (content_of_member c.args.mode h.length d m c.index-members-at.is c.in_err-part-in-Some.ensures.value))
 
 pub read_piece-returns-in_ok-part-in-Some-clause-value : goal.read_piece-returns-in_ok-part-in-Some-clause-value
 read_piece-returns-in_ok-part-in-Some-clause-value g t c =
@@ -476,14 +477,14 @@ read_piece-returns-in_ok-part-in-Some-clause-value g t c =
     let d = c.index-members-at.result in
     let m = get_or c.args.members.now c.in-Some.at d in
     let h = c.args.header in
-    let u = goes_on part_of (content_in c.args.mode h.length (type_shape m.ty)) (kept_piece h.id) (piece_kept c.args.mode c.args.members.now c.args.known.now h (g.C.Cursor.state c.args.cursor.now) c.in-Some.at d there.0 there.1 (rw c.in-Some.is at c.in_ok-place.ensures.within)) (content_of_member c.args.mode h.length d m c.index-members-at.is c.in_ok-part-in-Some.ensures) in
+    let u = goes_on part_of (content_in c.args.mode h.length (type_shape m.ty)) (kept_piece h.id) (piece_kept c.args.mode c.args.members.now c.args.known.now h (g.C.Cursor.state c.args.cursor.now) c.in-Some.at d there.0 there.1 (rw c.in-Some.is at c.in_ok-place.ensures.within)) (content_of_member c.args.mode h.length d m c.index-members-at.is c.in_ok-part-in-Some.ensures.value) in
     ends piece_of (λ o. ((h.id, part_of c.in_ok-part-in-Some.part) ∷ [], false)) u refl
 
 pub read_piece-returns-in_ok-read_pass-in-None-clause-value : goal.read_piece-returns-in_ok-read_pass-in-None-clause-value
 read_piece-returns-in_ok-read_pass-in-None-clause-value g t c =
     let ms = members_shape c.args.members.now in
     let h = c.args.header in
-    let u = goes_on (λ u. u) (pass_at h.length) (passed_piece h.must) (piece_passed c.args.mode ms c.args.known.now h (g.C.Cursor.state c.args.cursor.now) (g.met.C.Cursor.stands c.args.cursor.now) c.requires.room (rw c.in-None.is at c.in_ok-place.ensures.place)) c.in_ok-read_pass-in-None.ensures in
+    let u = goes_on (λ u. u) (pass_at h.length) (passed_piece h.must) (piece_passed c.args.mode ms c.args.known.now h (g.C.Cursor.state c.args.cursor.now) (g.met.C.Cursor.stands c.args.cursor.now) c.requires.room (rw c.in-None.is at c.in_ok-place.ensures.place)) c.in_ok-read_pass-in-None.ensures.value in
     ends piece_of (λ o. ([], h.must)) u refl
 
 -- ---- what comes next among the pieces
@@ -493,23 +494,25 @@ read_next-returns-in_err-next_heading-clause-value g t c =
     let ms = members_shape c.args.members.now in
     let a = g.C.Cursor.state c.args.cursor.now in
     let p = err_from_is_err_and c.from_residual.result c.from_residual.ensures.1 in
-    rw (p.1, p.2) (fails (next_view a) (option_map piece_of) (next_in c.args.mode) (heading_then c.args.mode ms (has_come ms c.args.known.now)) (next_begin c.args.mode ms (has_come ms c.args.known.now) a) c.in_err-next_heading.ensures.value)
+    rw (p.1, p.2) (unread_now a (g.C.Cursor.state c.next_heading.new.cursor) (fails (next_view a) (option_map piece_of) (next_in c.args.mode) (heading_then c.args.mode ms (has_come ms c.args.known.now)) (next_begin c.args.mode ms (has_come ms c.args.known.now) a) c.in_err-next_heading.ensures.value))
 
 pub read_next-returns-in-End-clause-value : goal.read_next-returns-in-End-clause-value
 read_next-returns-in-End-clause-value g t c =
     let ms = members_shape c.args.members.now in
     let a = g.C.Cursor.state c.args.cursor.now in
     let u = goes_on (next_view a) (next_in c.args.mode) (heading_then c.args.mode ms (has_come ms c.args.known.now)) (next_begin c.args.mode ms (has_come ms c.args.known.now) a) (rw c.in-End.is at c.in_ok-next_heading.ensures.value) in
-    ends (option_map piece_of) (λ o. None) u refl
+    read_now a (g.C.Cursor.state c.next_heading.new.cursor) (rw c.in-End.is at c.in_ok-next_heading.ensures.held) (ends (option_map piece_of) (λ o. None) u refl)
 
 pub read_next-returns-in_ok-read_pass-in-Ignored-clause-value : goal.read_next-returns-in_ok-read_pass-in-Ignored-clause-value
 read_next-returns-in_ok-read_pass-in-Ignored-clause-value g t c =
     let ms = members_shape c.args.members.now in
     let a = g.C.Cursor.state c.args.cursor.now in
+    let b = g.C.Cursor.state c.next_heading.new.cursor in
     let n = c.in-Ignored.length in
     let u = goes_on (next_view a) (next_in c.args.mode) (heading_then c.args.mode ms (has_come ms c.args.known.now)) (next_begin c.args.mode ms (has_come ms c.args.known.now) a) (rw c.in-Ignored.is at c.in_ok-next_heading.ensures.value) in
-    let v = next_passed c.args.mode ms (has_come ms c.args.known.now) n (g.met.C.Cursor.stands c.next_heading.new.cursor) (rw c.in-Ignored.is at c.in_ok-next_heading.ensures.held) u in
-    ends (option_map piece_of) (λ o. Some ([], false)) (goes_on (λ u. u) (pass_at n) nothing_known v c.in_ok-read_pass-in-Ignored.ensures) refl
+    let v = next_passed c.args.mode ms (has_come ms c.args.known.now) n (stands_unheld a b (g.met.C.Cursor.stands c.next_heading.new.cursor)) (rw c.in-Ignored.is at c.in_ok-next_heading.ensures.within) u in
+    let d = read_behind n a b (g.C.Cursor.state c.read_pass.new.cursor) (rw c.in-Ignored.is at c.in_ok-next_heading.ensures.held) c.in_ok-read_pass-in-Ignored.ensures.behind c.in_ok-read_pass-in-Ignored.ensures.value in
+    ends (option_map piece_of) (λ o. Some ([], false)) (goes_on (λ u. u) (pass_at n) nothing_known v d) refl
 
 pub read_next-returns-in_err-piece-in-Member-clause-value : goal.read_next-returns-in_err-piece-in-Member-clause-value
 read_next-returns-in_err-piece-in-Member-clause-value g t c =
@@ -519,7 +522,7 @@ read_next-returns-in_err-piece-in-Member-clause-value g t c =
     let p = err_from_is_err_and c.from_residual-in_err-piece-in-Member.result c.from_residual-in_err-piece-in-Member.ensures.1 in
     let u = goes_on (next_view a) (next_in c.args.mode) (heading_then c.args.mode ms (has_come ms c.args.known.now)) (next_begin c.args.mode ms (has_come ms c.args.known.now) a) (rw c.in-Member.is at c.in_ok-next_heading.ensures.value) in
     let v = next_told c.args.mode ms c.args.known.now h a u.within.origin u in
-    rw (p.1, p.2) (fails piece_of (option_map piece_of) (piece_at c.args.mode ms c.args.known.now h (g.C.Cursor.state c.next_heading.new.cursor)) some_piece v c.in_err-piece-in-Member.ensures.value)
+    rw (p.1, p.2) (fails piece_of (option_map piece_of) (piece_at c.args.mode ms c.args.known.now h (g.C.Cursor.state c.next_heading.new.cursor)) some_piece v (unread_behind a (g.C.Cursor.state c.next_heading.new.cursor) (g.C.Cursor.state c.read_piece.new.cursor) c.in_err-piece-in-Member.ensures.value))
 
 pub read_next-returns-in_ok-piece-in-Member-clause-value : goal.read_next-returns-in_ok-piece-in-Member-clause-value
 read_next-returns-in_ok-piece-in-Member-clause-value g t c =
@@ -528,7 +531,9 @@ read_next-returns-in_ok-piece-in-Member-clause-value g t c =
     let h = c.in-Member.header in
     let u = goes_on (next_view a) (next_in c.args.mode) (heading_then c.args.mode ms (has_come ms c.args.known.now)) (next_begin c.args.mode ms (has_come ms c.args.known.now) a) (rw c.in-Member.is at c.in_ok-next_heading.ensures.value) in
     let v = next_told c.args.mode ms c.args.known.now h a u.within.origin u in
-    let w = goes_on piece_of (piece_at c.args.mode ms c.args.known.now h (g.C.Cursor.state c.next_heading.new.cursor)) some_piece v c.in_ok-piece-in-Member.ensures.value in
+    let b = g.C.Cursor.state c.next_heading.new.cursor in
+    let d = read_behind h.length a b (g.C.Cursor.state c.read_piece.new.cursor) (rw c.in-Member.is at c.in_ok-next_heading.ensures.held) c.in_ok-piece-in-Member.ensures.behind c.in_ok-piece-in-Member.ensures.value in
+    let w = goes_on piece_of (piece_at c.args.mode ms c.args.known.now h b) some_piece v d in
     ends (option_map piece_of) (λ o. Some (piece_of c.in_ok-piece-in-Member.piece)) w refl
 
 -- ---- pieces one after another

@@ -7,4 +7,4 @@ use Rattle.xcdr_reader.proofs.headings.pass_left.Goals as goal
 pub returns : goal.returns
 returns g c =
     let n = c.region_end.result - c.place.result in
-    last (λ u. u) (pass_at n) (rest_passed n (g.C.Cursor.state c.args.cursor.now) (g.met.C.Cursor.stands c.args.cursor.now) (ap₂ (λ (x y : ℕ). x - y) c.region_end.ensures c.place.ensures)) c.read_pass.ensures
+    last (λ u. u) (pass_at n) (rest_passed n (g.C.Cursor.state c.args.cursor.now) (g.met.C.Cursor.stands c.args.cursor.now) (ap₂ (λ (x y : ℕ). x - y) c.region_end.ensures c.place.ensures)) c.read_pass.ensures.value

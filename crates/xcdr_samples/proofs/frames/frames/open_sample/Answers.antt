@@ -23,6 +23,7 @@ returns-clause-begun g c =
         ahead = en.ahead ∙ ro.value.ahead ∙ so.ahead;
         origin = en.origin ∙ ro.value.origin ∙ so.place;
         order = en.order ∙ ro.value.order ∙ so.order;
+        reach = en.reach ∙ ro.value.reach ∙ so.reach;
         outer = en.outer ∙ ro.value.region_end ∙ so.region_end;
         padding = refl;
         old_origin = ro.origin ∙ so.origin;

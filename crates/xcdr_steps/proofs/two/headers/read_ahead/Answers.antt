@@ -9,4 +9,4 @@ returns-in-Ok-clause-value g c =
     peek_ok c.in-Ok.octets c.number.result (g.met.C.Cursor.stands c.args.cursor.now) p (c.number.ensures.value ∙ ap (λ o. number o c.in-Ok.octets) (c.order.ensures ∙ p.stayed.within.order))
 
 pub returns-in-Err : goal.returns-in-Err
-returns-in-Err g c = rw c.cut.ensures (record { below = tt; value = peek_err c.in-Err.fault (g.met.C.Cursor.stands c.args.cursor.now) (g.met.C.Cursor.stands c.peek.new.self) c.in-Err.ensures })
+returns-in-Err g c = rw c.cut.ensures (record { below = tt; held = tt; value = peek_err c.in-Err.fault (g.met.C.Cursor.stands c.args.cursor.now) (g.met.C.Cursor.stands c.peek.new.self) c.in-Err.ensures })

@@ -1,6 +1,6 @@
 use Rattle.std.proofs.Common.{arith, ◌≤◌, length}
-use Rattle.xt_wire.proofs.OfStreams.Held.{advanced, nothing_after, on_both}
-use Rattle.xt_wire.proofs.streams.cursor.StreamCursor.advance.Goals as goal
+use Rattle.xcdr_steps.proofs.OfAgain.Passed.{advanced, nothing_after, on_both}
+use Rattle.xcdr_steps.proofs.again.rereading.Rereading.read_behind.Goals as goal
 
 pub returns-clause-octets : goal.returns-clause-octets
 returns-clause-octets g c =
