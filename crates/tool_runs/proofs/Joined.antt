@@ -10,7 +10,6 @@ use Rattle.xt_io.specs.Bundles.{Bundle}
 use Rattle.xt_io.specs.Outside.{AppendsPrefix}
 use Rattle.xt_io.specs.Readers.{Reading}
 use Rattle.tool_runs.specs.declared.output.ending.Ending.{Ending}
-use Rattle.tool_runs.specs.declared.output.ending.Ending.TheVariants.{Done}
 use Rattle.tool_runs.specs.declared.output.ending.Style.{Style}
 use Rattle.tool_runs.specs.declared.output.halt.Halt.{Halt}
 use Rattle.tool_runs.specs.declared.output.halt.Halt.TheVariants as halts

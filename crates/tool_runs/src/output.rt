@@ -1,5 +1,6 @@
 //! What a command writes and how it ends: lines or records, one after another, and a last one where it is refused.
 
+mod block;
 mod ending;
 mod halt;
 mod saying;

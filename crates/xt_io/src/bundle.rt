@@ -17,6 +17,9 @@ use xt_outside::{Failed, Head, Item, RecordFault, Source};
 
 const MOST_RECORDS: u32 = 1_048_576;
 
+// The octets of a head.
+const HEAD: usize = 5;
+
 /// A payload that is being read: its head, and how many of its octets are left.
 #[derive(Clone, Copy, Debug, PartialEq, Eq)]
 pub struct Pending {
@@ -207,6 +210,53 @@ impl<S: Source> BundleReader<S> {
         }
     }
 
+    /// Passes over what is left of the payload of the last head: over nothing, where no head was given or its payload was read. It takes
+    /// no memory, and its faults are those of `payload` but for want of memory.
+    pub fn pass_payload(&mut self) -> Result<(), RecordFault>
+        ensures octets { IfOk result (λ _. PassesPending self.old.pending self.old.left self.new.left) }
+        ensures whole { IfOk result (λ _. IfSome (inside self.old) (λ octets. length octets ≡ rest_of self.old.pending)) }
+        ensures ahead { IfOk result (λ _. KeepsTold self.old.ahead self.new.ahead) }
+        ensures pending { self.old.fault ≡ None → self.new.pending ≡ None }
+        ensures ends { IfErr result (λ fault. Ends fault self.old.ahead) }
+        ensures cut { self.old.fault ≡ None → IfErr result (CutsPayload self.old.pending self.old.left) }
+        ensures no_memory { IsErrOf result OutOfMemory → self.old.fault ≡ Some OutOfMemory }
+        ensures follow { self.new.may_follow ≡ self.old.may_follow }
+        ensures answers { Answers self.old self.new result }
+    {
+        if let Some(fault) = self.fault {
+            return Err(fault);
+        }
+        let pending = self.pending;
+        self.pending = None;
+        match pass_pending(&mut self.source, pending) {
+            Ok(()) => Ok(()),
+            Err(fault) => {
+                self.fault = Some(fault);
+                Err(fault)
+            }
+        }
+    }
+
+    // How many octets are left of the payload of the last head.
+    fn left_of_payload(&self) -> u32
+        ensures { result ≡ rest_of self.now.pending }
+    {
+        match self.pending {
+            Some(pending) => pending.rest,
+            None => 0,
+        }
+    }
+
+    /// Whether what is left of the payload of the last head is at hand (`Source::at_hand`), so that reading it waits for no device.
+    pub fn has_payload(&self) -> bool {
+        self.left_of_payload() as usize <= self.source.at_hand()
+    }
+
+    /// The same of what is left of that payload and the head behind it.
+    pub fn has_head(&self) -> bool {
+        self.left_of_payload() as usize + HEAD <= self.source.at_hand()
+    }
+
     // The next head of a reader that met no fault.
     fn advance(&mut self) -> Result<Option<Head>, RecordFault>
         requires { self.old.fault ≡ None }
@@ -303,5 +353,9 @@ impl<S: Source> Source for BundleReader<S> {
             rest: pending.rest - count as u32,
         });
         Ok(count)
+    }
+
+    fn at_hand(&self) -> usize {
+        (self.left_of_payload() as usize).min(self.source.at_hand())
     }
 }

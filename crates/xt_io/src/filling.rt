@@ -11,6 +11,8 @@ use xt_outside::{Failed, Head, RecordFault, Source};
 
 const CHUNK: usize = 4096;
 
+const FEW: usize = 512;
+
 /// Fills the slice, or as much of its front as there are octets left.
 pub fn fill<S: Source>(source: &mut S, into: &mut [u8]) -> Result<usize, Failed>
     ensures bound { IfOk result (λ n. n ≤ length into.new) }
@@ -31,6 +33,21 @@ pub fn fill<S: Source>(source: &mut S, into: &mut [u8]) -> Result<usize, Failed>
     Ok(at)
 }
 
+// The same of few octets, for which a small block is cleared.
+fn read_few<S: Source>(alloc: Global, source: &mut S, most: usize) -> Result<Text, RecordFault>
+    requires { most ≤ 512 }
+    ensures octets { IfOk result (λ t. TakesUpTo most (S.left source.old) (S.left source.new) t) }
+    ensures within { IfOk result (λ t. length t ≤ most) }
+    ensures end { IfOk result (λ t. length t < most → IsAtEnd (S.left source.new)) }
+    ensures fault { IfErr result IsOutside }
+    ensures cause { HasReadCause (S.faults source.old) (S.faults source.new) result }
+    ensures same { S.name source.new ≡ S.name source.old }
+{
+    let mut few = [0u8; FEW];
+    let count = fill(source, &mut few[..most])?;
+    Ok(Text::from_octets(alloc, &few[..count])?)
+}
+
 /// Reads this many octets, or as many as there are left. Memory is taken only for octets that came.
 pub fn read_text<S: Source>(alloc: Global, source: &mut S, most: usize) -> Result<Text, RecordFault>
     ensures octets { IfOk result (λ t. TakesUpTo most (S.left source.old) (S.left source.new) t) }
@@ -40,6 +57,9 @@ pub fn read_text<S: Source>(alloc: Global, source: &mut S, most: usize) -> Resul
     ensures cause { HasReadCause (S.faults source.old) (S.faults source.new) result }
     ensures same { S.name source.new ≡ S.name source.old }
 {
+    if most <= FEW {
+        return read_few(alloc, source, most);
+    }
     let mut text = Text::new(alloc);
     let mut chunk = [0u8; CHUNK];
     'chunks: while text.len() < most {
@@ -85,6 +105,9 @@ pub(crate) fn pass_payload<S: Source>(
     ensures cause { HasReadCause (S.faults source.old) (S.faults source.new) result }
     ensures same { S.name source.new ≡ S.name source.old }
 {
+    if rest == 0 {
+        return Ok(());
+    }
     let passed = pass_over(source, rest as usize)?;
     if passed < rest as usize {
         return Err(RecordFault::Truncated {

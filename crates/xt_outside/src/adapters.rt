@@ -6,7 +6,7 @@ ghost use Rattle.xt_outside.specs.Outside.{HasCause, KeepsRest};
 
 use crate::counts::raised;
 use crate::octets::{Failed, Sink, Source};
-use std::io::{Read, Write};
+use std::io::{BufRead, Read, Write};
 
 const CHUNK: usize = 4096;
 
@@ -36,6 +36,39 @@ pub(crate) fn read_counted<R: Read>(
     }
 }
 
+/// Reads once what the reader shows, and raises the count at each error. `ahead` is set to how many octets it shows behind those.
+fn read_shown<R: BufRead>(
+    reader: &mut R,
+    ahead: &mut usize,
+    faults: &mut u64,
+    into: &mut [u8],
+) -> Result<usize, Failed>
+    ensures bound { ReadsAtMost result into.new }
+    ensures octets { ReadConsumes (R.remaining reader.old) (R.remaining reader.new) result into.new }
+    ensures rest { KeepsRest result into.old into.new }
+    ensures cause { HasCause faults.old faults.new result }
+{
+    if into.is_empty() {
+        return Ok(0);
+    }
+    let shown = match reader.fill_buf() {
+        Ok(shown) => shown,
+        Err(_) => {
+            *faults = raised(*faults);
+            return Err(Failed);
+        }
+    };
+    if shown.is_empty() {
+        // The end of the input, if a read says so too.
+        return read_counted(reader, faults, into);
+    }
+    let count = shown.len().min(into.len());
+    *ahead = shown.len() - count;
+    into[..count].copy_from_slice(&shown[..count]);
+    reader.consume(count);
+    Ok(count)
+}
+
 /// Writes once, and raises the count at each error and where nothing is taken of some octets.
 pub(crate) fn write_counted<W: Write>(
     writer: &mut W,
@@ -56,14 +89,15 @@ pub(crate) fn write_counted<W: Write>(
     }
 }
 
-/// A reader of std as a source. It tells its octets where the reader tells them.
+/// A buffered reader of std as a source. It tells its octets where the reader tells them, and has at hand what the reader has read ahead.
 #[derive(Drop)]
 pub struct ReadSource<R> {
     inner: R,
+    ahead: usize,
     faults: u64,
 }
 
-impl<R: Read> ReadSource<R> {
+impl<R: BufRead> ReadSource<R> {
     ghost use Rattle.xt_outside.specs.Adapters.{reader_of, reader_faults};
 
     /// It takes no memory.
@@ -71,14 +105,22 @@ impl<R: Read> ReadSource<R> {
         ensures inner { reader_of result ≡ inner }
         ensures faults { reader_faults result ≡ 0 }
     {
-        ReadSource { inner, faults: 0 }
+        ReadSource {
+            inner,
+            ahead: 0,
+            faults: 0,
+        }
     }
 
     /// The reader, where the last read left it.
     pub fn into_inner(self) -> R
         ensures { result ≡ reader_of self }
     {
-        let ReadSource { inner, faults: _ } = self;
+        let ReadSource {
+            inner,
+            ahead: _,
+            faults: _,
+        } = self;
         inner
     }
 
@@ -90,13 +132,17 @@ impl<R: Read> ReadSource<R> {
     }
 }
 
-impl<R: Read> Source for ReadSource<R> {
+impl<R: BufRead> Source for ReadSource<R> {
     ghost left = { λ s. R.remaining s.inner };
 
     ghost faults = { λ s. s.faults };
 
     fn read(&mut self, into: &mut [u8]) -> Result<usize, Failed> {
-        read_counted(&mut self.inner, &mut self.faults, into)
+        read_shown(&mut self.inner, &mut self.ahead, &mut self.faults, into)
+    }
+
+    fn at_hand(&self) -> usize {
+        self.ahead
     }
 }
 

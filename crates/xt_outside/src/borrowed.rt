@@ -17,6 +17,10 @@ impl<S: Source> Source for &mut S {
     fn read(&mut self, into: &mut [u8]) -> Result<usize, Failed> {
         Source::read(&mut **self, into)
     }
+
+    fn at_hand(&self) -> usize {
+        Source::at_hand(&**self)
+    }
 }
 
 impl<K: Sink> Sink for &mut K {

@@ -45,6 +45,10 @@ impl<'a> Source for SureSource<'a> {
         self.left = &left[count..];
         Ok(count)
     }
+
+    fn at_hand(&self) -> usize {
+        self.left.len()
+    }
 }
 
 /// A source of octets in memory that gives at most so many in a call, and one at least, and fails at the calls that are
@@ -94,6 +98,11 @@ impl<'a> Source for MemSource<'a> {
         let count = copy_front(left, self.most.max(1), into);
         self.left = &left[count..];
         Ok(count)
+    }
+
+    // What one call gives.
+    fn at_hand(&self) -> usize {
+        self.left.len().min(self.most.max(1))
     }
 }
 

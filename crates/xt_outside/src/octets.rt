@@ -35,6 +35,12 @@ pub trait Source {
         ensures behind { IfOk result (λ _. KeepsTold (behind self.old) (behind self.new)) }
         ensures same { name self.new ≡ name self.old }
         ensures cause { HasCause (faults self.old) (faults self.new) result };
+
+    /// How many octets the next reads give without waiting for a device, so far as the source knows. It speaks of time alone, so no clause
+    /// rests on it.
+    fn at_hand(&self) -> usize {
+        0
+    }
 }
 
 /// Where octets go.

@@ -1,5 +1,5 @@
 -- Turns, one after another.
-use Rattle.std.proofs.Common.{◌≡◌, ℕ, ◌+◌, ◌<◌, List, [], ◌∷◌, ◌++◌, append-nil, Bool, true, false, ◌⊎◌, inl, inr, length, take, None, Some, Result, Ok, Err, refl, sym, ap, ◌∙◌, subst, arith, take_all, if◌then◌else◌}
+use Rattle.std.proofs.Common.{◌≡◌, ℕ, ◌+◌, ◌<◌, List, [], ◌∷◌, ◌++◌, append-nil, Bool, true, false, inl, inr, length, take, None, Some, Result, Ok, Err, refl, sym, ap, ◌∙◌, subst, IfSome, arith, take_all, if◌then◌else◌}
 use Rattle.std.proofs.lemmas.Bool.{le-ltb, lt-ltb}
 use Rattle.std.specs.declared.option.Option.{Option}
 use Rattle.std.specs.Option.{option_map}
@@ -120,6 +120,16 @@ takes_whole head (Some octets) (Some now) (Some after) t len told kept =
     let same : Some after ≡ Some now = kept in
     let behind : now ≡ after = cc in
     (t, ap (λ (l : List ℕ). with_payload head l now) (sym told) ∙ whole_record head t now len ∙ ap (before_bundle (item_of head t)) behind, refl)
+
+-- a payload that was passed over whole
+pub takes_passed : (head : Head) (o : Option (List ℕ)) (now after : Option Bundle) → IfSome o (λ octets. length octets ≡ head.length) → KeepsTold now after → TakesRecord head (λ octets. Unit {0}) (both (with_payload head) o now) after
+takes_passed head None now after len kept = tt
+takes_passed head (Some octets) None after len kept = tt
+takes_passed head (Some octets) (Some now) None len kept = absurd (let none : None ≡ Some now = kept in cc)
+takes_passed head (Some octets) (Some now) (Some after) len kept =
+    let same : Some after ≡ Some now = kept in
+    let behind : now ≡ after = cc in
+    (octets, whole_record head octets now len ∙ ap (before_bundle (item_of head octets)) behind, tt)
 
 short_record : (head : Head) (t : List ℕ) (after : Bundle) → length t < head.length → with_payload head (take head.length t) after ≡ cut head
 unfolding with_payload

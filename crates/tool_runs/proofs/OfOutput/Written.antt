@@ -20,7 +20,7 @@ concat-append (x ∷ xs) ys = ap (λ l. x ++ l) (concat-append xs ys) ∙ sym (a
 pub regroup : (front back : List (List ℕ)) (output : Output) → after_pieces front (after_pieces back output) ≡ after_pieces (front ++ back) output
 regroup front back output = ap (λ (l : List (List ℕ)). let made : Output = record { pieces = l; ending = output.ending } in made) (sym (append_assoc front back output.pieces))
 
-text_after : (first rest : Output) (pieces : List (List ℕ)) → first ≡ after_pieces pieces rest → text_of first ≡ concat pieces ++ text_of rest
+pub text_after : (first rest : Output) (pieces : List (List ℕ)) → first ≡ after_pieces pieces rest → text_of first ≡ concat pieces ++ text_of rest
 text_after first rest pieces e = ap text_of e ∙ concat-append pieces rest.pieces
 
 -- nothing was written yet

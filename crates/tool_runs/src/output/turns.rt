@@ -1,12 +1,14 @@
-ghost use Rattle.std.specs.Prelude.{◌≡◌, ◌≤◌, ◌+◌, None, IfErr, IfOk, OnOk, length};
+ghost use Rattle.std.specs.Prelude.{◌≡◌, ◌≤◌, ◌+◌, ℕ, List, [], Option, None, IfErr, IfOk, OnOk, length};
 ghost use Rattle.std.specs.Option.{option_map};
 ghost use Rattle.std.specs.Io.KnownBytes.{IsAtEnd};
 ghost use Rattle.xt_io.specs.Outside.{KeepsTold};
-ghost use Rattle.tool_runs.specs.output.Runs.{coming, turns_left, IsReady, MayGo, GoesOn, Steps, Stops, HaltsReading, StopsReading, StopsBundle, StopsFor, TakesPayload, PassesOther, at_number};
+ghost use Rattle.tool_runs.specs.output.Runs.{coming, turns_left, IsReady, MayGo, GoesOn, Steps, Stops, Halts, HaltsReading, StopsReading, StopsBundle, StopsFor, TakesPayload, PassesOther, at_number};
+ghost use Rattle.tool_runs.specs.output.Blocks as blocks;
 ghost use Rattle.tool_runs.specs.output.Outputs.{same_kind};
 ghost use Rattle.tool_runs.specs.declared.output.turns.Next.TheVariants.{Record};
 ghost use Rattle.xt_io.specs.Bundles.{limit_of, nothing};
 
+use crate::output::block::{Block, finish};
 use crate::output::ending::Style;
 use crate::output::halt::Halt;
 use crate::output::saying::{refuse_bundle, refuse_fault};
@@ -75,6 +77,25 @@ pub fn payload_of<S: Source>(
     }
 }
 
+// Passes over the payload of the record whose head the reader just gave.
+fn pass_payload_of<S: Source>(
+    alloc: Global,
+    head: Head,
+    reader: &mut BundleReader<S>,
+) -> Result<(), Stop>
+    requires { IsReady head reader.old }
+    ensures takes { TakesPayload head (λ u octets. Unit {0}) (coming (Record head) reader.old) reader.new.ahead result }
+    ensures on { OnOk result (GoesOn reader.old reader.new) }
+    ensures cause { IfErr result StopsBundle }
+    ensures stops { StopsReading reader.old.faults reader.new.faults result }
+    ensures same { reader.new.name ≡ reader.old.name }
+{
+    match reader.pass_payload() {
+        Ok(()) => Ok(()),
+        Err(fault) => Err(stop_for(alloc, fault)),
+    }
+}
+
 fn is_note(kind: Kind) -> bool
     ensures { result ≡ same_kind kind Kind.Note }
 {
@@ -84,8 +105,8 @@ fn is_note(kind: Kind) -> bool
     }
 }
 
-/// Passes over the record whose head the reader just gave: a Note is read whole and left, and another record has no place, which is
-/// refused once it was read whole. It gives the reader back.
+/// Passes over the record whose head the reader just gave: a Note is passed over whole, and another record has no place, which is refused
+/// once it was passed over whole. No memory goes by the payload's length. It gives the reader back.
 pub fn pass_other<S: Source>(
     alloc: Global,
     head: Head,
@@ -99,9 +120,9 @@ pub fn pass_other<S: Source>(
     ensures same { result.0.name ≡ reader.name }
 {
     let mut reader = reader;
-    match payload_of(alloc, head, &mut reader) {
+    match pass_payload_of(alloc, head, &mut reader) {
         Err(stop) => (reader, Err(stop)),
-        Ok(_) => {
+        Ok(()) => {
             if is_note(head.kind) {
                 (reader, Ok(()))
             } else {
@@ -184,8 +205,67 @@ fn one_turn<T: Turns, S: Source, K: Sink>(
     }
 }
 
+// The halt of a call whose sink is in memory.
+fn memory_halt(halt: Halt) -> Halt
+    ensures { result ≡ blocks.memory_halt halt }
+{
+    match halt {
+        Halt::ReadFault => Halt::ReadFault,
+        Halt::WriteFault | Halt::OutOfMemory => Halt::OutOfMemory,
+    }
+}
+
+// One turn, whose text goes into the block. It halts where memory is wanting for that.
+fn gather_turn<T: Turns, S: Source>(
+    alloc: Global,
+    turns: &mut T,
+    number: u32,
+    head: Head,
+    reader: BundleReader<S>,
+    block: &mut Block,
+) -> (BundleReader<S>, Result<(), Stop>)
+    requires { IsReady head reader }
+    ensures steps { (taken : Option (List ℕ)) → Steps T.style (option_map (T.to_write turns.old number) (coming (Record head) reader)) (option_map (T.to_write turns.new (number + 1)) result.0.ahead) result.1 (blocks.reached taken (blocks.held block.old)) (blocks.reached taken (blocks.held block.new)) }
+    ensures on { OnOk result.1 (GoesOn reader result.0) }
+    ensures stops { StopsReading reader.faults result.0.faults result.1 }
+    ensures same { result.0.name ≡ reader.name }
+{
+    let (back, turned) = one_turn(alloc, turns, number, head, reader, block);
+    match turned {
+        Ok(()) => (back, Ok(())),
+        Err(Stop::Refused(refused)) => (back, Err(Stop::Refused(refused))),
+        Err(Stop::Halted(halt)) => (back, Err(Stop::Halted(memory_halt(halt)))),
+    }
+}
+
+// What comes next. What the block holds is handed on first, where it is full, and where the program would wait for the head or for the
+// payload behind it: so no line waits with it.
+fn next_gathered<S: Source, K: Sink>(
+    reader: &mut BundleReader<S>,
+    block: &mut Block,
+    sink: &mut K,
+) -> Result<Next, Halt>
+    requires { reader.old.fault ≡ None }
+    ensures coming { IfOk result (λ next. KeepsTold reader.old.ahead (coming next reader.new)) }
+    ensures ready { IfOk result (λ next. MayGo next reader.new) }
+    ensures fewer { IfOk result (λ next. turns_left next reader.new.may_follow ≤ reader.old.may_follow) }
+    ensures hands_on { blocks.HandsOn result (K.taken sink.old) (K.taken sink.new) (blocks.held block.old) (blocks.held block.new) }
+    ensures halts { Halts reader.old.faults reader.new.faults (K.faults sink.old) (K.faults sink.new) result }
+    ensures same_source { reader.new.name ≡ reader.old.name }
+    ensures same_sink { K.name sink.new ≡ K.name sink.old }
+{
+    let may_wait = reader.has_head() && !block.is_full();
+    block.hand_on_unless(may_wait, sink)?;
+    let next = next_of(reader)?;
+    block.hand_on_unless(reader.has_payload(), sink)?;
+    Ok(next)
+}
+
 /// A turn for each record of a body, from this number on, to the end of the bundle. It gives the reader back. A refusal is not
 /// written yet, and nothing that is written at the end.
+///
+/// What the turns write goes to the sink in blocks: once 65,536 octets have come together, before input is read that isn't at hand, and at the
+/// end. The memory of a block is asked for once, and grows to that of the longest text of a record.
 pub fn run_body<T: Turns, S: Source, K: Sink>(
     alloc: Global,
     turns: &mut T,
@@ -202,6 +282,34 @@ pub fn run_body<T: Turns, S: Source, K: Sink>(
     ensures same_source { result.0.name ≡ reader.name }
     ensures same_sink { K.name sink.new ≡ K.name sink.old }
 {
+    let Ok(empty) = Block::new(alloc) else {
+        return (reader, Err(Stop::Halted(Halt::OutOfMemory)));
+    };
+    let mut block = empty;
+    let (back, ran) = gather_body(alloc, turns, number, begun, reader, &mut block, sink);
+    (back, finish(block, ran, sink))
+}
+
+// The same. What the sink took and what the block holds are together what was written.
+fn gather_body<T: Turns, S: Source, K: Sink>(
+    alloc: Global,
+    turns: &mut T,
+    number: u32,
+    begun: Next,
+    reader: BundleReader<S>,
+    block: &mut Block,
+    sink: &mut K,
+) -> (BundleReader<S>, Result<u32, Stop>)
+    requires ready { MayGo begun reader }
+    requires few { number + turns_left begun reader.may_follow ≤ 1048576 }
+    requires empty { blocks.held block.old ≡ [] }
+    ensures steps { Steps T.style (option_map (T.to_write turns.old number) (coming begun reader)) (at_number (λ k. T.to_write turns.new k nothing) result.1) result.1 (K.taken sink.old) (blocks.reached (K.taken sink.new) (blocks.held block.new)) }
+    ensures grew { blocks.Grew (K.taken sink.old) (K.taken sink.new) }
+    ensures ended { OnOk result.1 (IsAtEnd result.0.left) }
+    ensures stops { Stops reader.faults result.0.faults (K.faults sink.old) (K.faults sink.new) result.1 }
+    ensures same_source { result.0.name ≡ reader.name }
+    ensures same_sink { K.name sink.new ≡ K.name sink.old }
+{
     let mut reader = reader;
     let mut next = begun;
     let mut at = number;
@@ -211,13 +319,13 @@ pub fn run_body<T: Turns, S: Source, K: Sink>(
             Next::End => return (reader, Ok(at)),
             Next::Broken(fault) => return (reader, Err(refuse_fault(alloc, fault))),
         };
-        let (back, turned) = one_turn(alloc, turns, at, head, reader, sink);
+        let (back, turned) = gather_turn(alloc, turns, at, head, reader, block);
         reader = back;
         if let Err(stop) = turned {
             return (reader, Err(stop));
         }
         at += 1;
-        next = match next_of(&mut reader) {
+        next = match next_gathered(&mut reader, block, sink) {
             Ok(next) => next,
             Err(halt) => return (reader, Err(Stop::Halted(halt))),
         };
