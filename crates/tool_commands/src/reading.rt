@@ -46,7 +46,7 @@ impl<'a> Prepares for Reading<'a> {
     {
         match reader_type(alloc, &self.pair, records) {
             Err(stop) => Err(stop),
-            Ok(ty) => Ok(Samples::new(self.pair.rep, ty, Lines)),
+            Ok(ty) => Ok(Samples::planned(alloc, self.pair.rep, ty, Lines)),
         }
     }
 

@@ -1,11 +1,13 @@
 //! What is written of a sample: a line of its value, or a sample of its value in another representation.
-ghost use Rattle.std.specs.Prelude.{◌≡◌, ◌++◌, Ok, Err, IfOk};
+ghost use Rattle.std.specs.Prelude.{◌≡◌, ◌++◌, Ok, Err, IfOk, IfSome, codes};
 ghost use Rattle.type_trees.specs.View.{tree, val};
 ghost use Rattle.type_rules.specs.Valid.{type_fault};
 ghost use Rattle.xcdr_model.specs.Samples.{sample};
 ghost use Rattle.tool_samples.specs.lines.Lines as lines;
 
 use crate::lines::{malformed_text, outcome_text, sample_record};
+use packed_json::{Plan, write_value};
+use packed_values::Packed;
 use settled_parts::Outcome;
 use std::alloc::Global;
 use tool_runs::output::{line, record};
@@ -25,6 +27,9 @@ pub trait Shows {
     ghost use Rattle.projection_laws.specs.Premises.{IsValid};
     ghost use Rattle.xcdr_model.specs.Samples as samples;
     ghost use Rattle.xcdr_model.specs.declared.malformed.Fault.{Fault};
+    ghost use Rattle.std.specs.Prelude.{IfSome};
+    ghost use Rattle.packed_values.specs.View.{packed_val};
+    ghost use Rattle.packed_json.specs.Plans.{IsPlanOf, meaning};
     ghost use Rattle.tool_runs.specs.declared.output.ending.Style.{Style};
 
     /// Whether lines or records are written.
@@ -38,9 +43,36 @@ pub trait Shows {
         requires { IsValid ty.now }
         ensures { IfOk result (λ text. text ≡ piece self.now (tree ty.now) (Ok (outcome_val outcome.now))) };
 
+    /// The piece for a plain value of a sample of so many octets, by the plan of its type. None says nothing.
+    fn plain(
+        &self,
+        alloc: Global,
+        ty: &XType,
+        plan: &Plan,
+        value: &Packed<'_>,
+        octets: usize,
+    ) -> Option<Text>
+        requires { IsPlanOf (tree ty.now) (meaning plan.now) }
+        ensures { IfSome result (λ text. text ≡ piece self.now (tree ty.now) (Ok (samples.sample (packed_val value.now)))) };
+
     /// The piece for a malformed sample: the place of the first fault, and why.
     fn malformed(&self, alloc: Global, ty: &XType, at: u64, why: Why) -> Result<Text, OutOfMemory>
         ensures { IfOk result (λ text. text ≡ piece self.now (tree ty.now) (Err (record { at = at; why = why }))) };
+}
+
+const MOST_OCTETS: usize = 1_048_576;
+
+// The beginning of a line of about so many octets.
+fn begun_line(alloc: Global, octets: usize) -> Option<Text>
+    ensures { IfSome result (λ text. text ≡ codes "ok ") }
+{
+    let Ok(mut line) = Vec::with_capacity(alloc, octets) else {
+        return None;
+    };
+    match line.extend_from_slice(b"ok ") {
+        Ok(()) => Some(Text::from_vec(line)),
+        Err(_) => None,
+    }
 }
 
 /// A line for each sample, with its value as JSON.
@@ -57,6 +89,23 @@ impl Shows for Lines {
 
     fn outcome(&self, alloc: Global, ty: &XType, outcome: &Outcome) -> Result<Text, OutOfMemory> {
         line(outcome_text(alloc, ty, outcome)?)
+    }
+
+    // A line mostly has at most three times as many octets as its sample, so that its memory is asked for once.
+    fn plain(
+        &self,
+        alloc: Global,
+        _ty: &XType,
+        plan: &Plan,
+        value: &Packed<'_>,
+        octets: usize,
+    ) -> Option<Text> {
+        let mut text = begun_line(alloc, octets.min(MOST_OCTETS) * 3)?;
+        write_value(plan, value, &mut text)?;
+        match text.push(b'\n') {
+            Ok(()) => Some(text),
+            Err(_) => None,
+        }
     }
 
     fn malformed(
@@ -90,6 +139,17 @@ impl Shows for Conversions {
             Outcome::Discarded => record(alloc, Kind::Note, b"discarded"),
             Outcome::MustUnderstand => record(alloc, Kind::Note, b"must-understand"),
         }
+    }
+
+    fn plain(
+        &self,
+        _alloc: Global,
+        _ty: &XType,
+        _plan: &Plan,
+        _value: &Packed<'_>,
+        _octets: usize,
+    ) -> Option<Text> {
+        None
     }
 
     fn malformed(

@@ -1,8 +1,12 @@
 ghost use Rattle.std.specs.Prelude.{◌≡◌};
+ghost use Rattle.type_trees.specs.View.{tree};
 ghost use Rattle.projection_laws.specs.Premises.{IsValid};
+ghost use Rattle.tool_samples.specs.Sampling.{PlansFor};
 
 use crate::forms::Shows;
+use crate::payloads::plan_for;
 use crate::sampling::sample_piece;
+use packed_json::Plan;
 use std::alloc::Global;
 use tool_runs::output::{Stop, Turns, say};
 use type_trees::XType;
@@ -15,7 +19,9 @@ pub struct Samples<F> {
     rep: Rep,
     ty: XType,
     form: F,
+    plan: Option<Plan>,
     ghost valid: { IsValid ty },
+    ghost planned: { PlansFor (tree ty) plan },
 }
 
 impl<F: Shows + Drop> Samples<F> {
@@ -25,7 +31,28 @@ impl<F: Shows + Drop> Samples<F> {
         ensures ty { result.ty ≡ ty }
         ensures form { result.form ≡ form }
     {
-        Samples { rep, ty, form }
+        Samples {
+            rep,
+            ty,
+            form,
+            plan: None,
+        }
+    }
+
+    /// The same, where plain samples are shown by a plan of the type, if it has one.
+    pub fn planned(alloc: Global, rep: Rep, ty: XType, form: F) -> Samples<F>
+        requires { IsValid ty }
+        ensures rep { result.rep ≡ rep }
+        ensures ty { result.ty ≡ ty }
+        ensures form { result.form ≡ form }
+    {
+        let plan = plan_for(alloc, rep, &ty);
+        Samples {
+            rep,
+            ty,
+            form,
+            plan,
+        }
     }
 }
 
@@ -57,7 +84,9 @@ impl<F: Shows + Drop> Turns for Samples<F> {
         reader: BundleReader<S>,
         sink: &mut K,
     ) -> (BundleReader<S>, Result<(), Stop>) {
-        let (back, shown) = sample_piece(alloc, &self.form, self.rep, &self.ty, head, reader);
+        let (back, shown) = sample_piece(
+            alloc, &self.form, self.rep, &self.ty, &self.plan, head, reader,
+        );
         match shown {
             Err(stop) => (back, Err(stop)),
             Ok(piece) => match say(sink, piece.octets()) {

@@ -6,12 +6,15 @@ ghost use Rattle.projection_laws.specs.Premises.{IsValid};
 ghost use Rattle.xcdr_model.specs.Samples.{read_sample};
 ghost use Rattle.tool_runs.specs.declared.output.turns.Next.TheVariants.{Record};
 ghost use Rattle.tool_runs.specs.output.Runs.{coming, IsReady, GoesOn, StopsReading, TakesPayload};
-ghost use Rattle.tool_samples.specs.Sampling.{Says};
+ghost use Rattle.packed_json.specs.Plans.{IsPlanOf, meaning};
+ghost use Rattle.tool_samples.specs.Sampling.{Says, PlansFor};
 
 use crate::forms::Shows;
+use crate::payloads::payload_piece;
+use packed_json::Plan;
 use settled_parts::Outcome;
 use std::alloc::Global;
-use tool_runs::output::{Halt, Stop, stop_for};
+use tool_runs::output::{Halt, Stop, payload_of, stop_for};
 use type_trees::XType;
 use xt_io::{BundleReader, Head, Source};
 use xt_lists::Text;
@@ -43,9 +46,9 @@ fn piece_of<F: Shows>(
     }
 }
 
-/// What is written of the sample whose head the reader just gave, by its representation and the reader's type alone. The sample is read as its octets come,
-/// and the rest of a malformed one before its piece is given; a sample that is cut has none. The reader is given back.
-pub fn sample_piece<F: Shows, S: Source>(
+// What is written of a sample that is read as its octets come. The rest of a malformed one is passed over before its piece is given, and
+// no memory goes by the payload's length but for the value's.
+fn streamed_piece<F: Shows, S: Source>(
     alloc: Global,
     form: &F,
     rep: Rep,
@@ -63,8 +66,62 @@ pub fn sample_piece<F: Shows, S: Source>(
     let mut cursor = StreamCursor::new(reader, head.length);
     let read = xcdr_samples::read_sample(alloc, rep, ty, &mut cursor);
     let mut reader = cursor.end();
-    match reader.payload(alloc) {
+    match reader.pass_payload() {
         Err(fault) => (reader, Err(stop_for(alloc, fault))),
-        Ok(_) => (reader, piece_of(alloc, form, ty, read)),
+        Ok(()) => (reader, piece_of(alloc, form, ty, read)),
+    }
+}
+
+// What is written of a sample that stands in memory.
+fn held_piece<F: Shows, S: Source>(
+    alloc: Global,
+    form: &F,
+    rep: Rep,
+    ty: &XType,
+    plan: &Plan,
+    head: Head,
+    reader: BundleReader<S>,
+) -> (BundleReader<S>, Result<Text, Stop>)
+    requires ready { IsReady head reader }
+    requires valid { IsValid ty.now }
+    requires planned { IsPlanOf (tree ty.now) (meaning plan.now) }
+    ensures takes { TakesPayload head (λ text octets. text ≡ F.piece form.now (tree ty.now) (read_sample rep (type_shape ty.now) octets)) (coming (Record head) reader) result.0.ahead result.1 }
+    ensures on { OnOk result.1 (GoesOn reader result.0) }
+    ensures stops { StopsReading reader.faults result.0.faults result.1 }
+    ensures same { result.0.name ≡ reader.name }
+{
+    let mut reader = reader;
+    match payload_of(alloc, head, &mut reader) {
+        Err(stop) => (reader, Err(stop)),
+        Ok(payload) => match payload_piece(alloc, form, rep, ty, plan, payload.octets()) {
+            Ok(piece) => (reader, Ok(piece)),
+            Err(_) => (reader, Err(Stop::Halted(Halt::OutOfMemory))),
+        },
+    }
+}
+
+/// What is written of the sample whose head the reader just gave, by its representation and the reader's type alone. With a plan the
+/// sample's octets are gathered, at most 1,048,576; else it is read as they come. A sample that is cut has no piece. The reader is given
+/// back.
+pub fn sample_piece<F: Shows, S: Source>(
+    alloc: Global,
+    form: &F,
+    rep: Rep,
+    ty: &XType,
+    plan: &Option<Plan>,
+    head: Head,
+    reader: BundleReader<S>,
+) -> (BundleReader<S>, Result<Text, Stop>)
+    requires ready { IsReady head reader }
+    requires valid { IsValid ty.now }
+    requires planned { PlansFor (tree ty.now) plan.now }
+    ensures takes { TakesPayload head (λ text octets. text ≡ F.piece form.now (tree ty.now) (read_sample rep (type_shape ty.now) octets)) (coming (Record head) reader) result.0.ahead result.1 }
+    ensures on { OnOk result.1 (GoesOn reader result.0) }
+    ensures stops { StopsReading reader.faults result.0.faults result.1 }
+    ensures same { result.0.name ≡ reader.name }
+{
+    match plan {
+        None => streamed_piece(alloc, form, rep, ty, head, reader),
+        Some(plan) => held_piece(alloc, form, rep, ty, plan, head, reader),
     }
 }

@@ -1,4 +1,3 @@
-pub mod SampleSays
 pub mod Ties
 pub mod Tops
 pub mod Keyed

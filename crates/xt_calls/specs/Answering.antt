@@ -1,4 +1,4 @@
--- What the calls' own values stand for, and how an answer is handed to a caller's room.
+-- What the calls' own values stand for, and how an answer is handed to a caller's room (this profile's own).
 use Rattle.std.specs.Prelude.{◌≡◌, ◌<◌, ◌^◌, IsTrue, ℕ, Bool, List, length, drop, ◌++◌, nat_le, if◌then◌else◌, ◌==◌, Result, Ok, Err}
 use Rattle.xt_shapes.specs.Shape.{Shape}
 use Rattle.xt_shapes.specs.Typing.{has_type}
@@ -13,13 +13,6 @@ use Rattle.tool_runs.specs.declared.output.halt.Halt.TheVariants as halts
 use Rattle.tool_runs.specs.declared.output.stop.Stop.{Stop}
 use Rattle.tool_runs.specs.declared.output.stop.Stop.TheVariants as stops
 use Rattle.xt_calls.specs.declared.answers.Answer.{Answer}
-
--- What is answered of what a decoder gives: that, unless memory was wanting.
-abbrev pub Taken : Result Outcome Fault → Result Settled DecodeFault → Type 0
-Taken read (Ok outcome) = read ≡ Ok (outcome_val outcome)
-Taken read (Err (Malformed at why)) = read ≡ Err (record { at = at; why = why })
-Taken read (Err ReadFault) = Unit {0}
-Taken read (Err OutOfMemory) = Unit {0}
 
 -- the same, where any halt is said to be want of memory
 abbrev pub Unhalted : Stop → Stop → Type 0

@@ -1,4 +1,4 @@
-ghost use Rattle.std.specs.Prelude.{◌≡◌, IfOk, Ok, Some};
+ghost use Rattle.std.specs.Prelude.{◌≡◌, IfOk, IfSome, Ok, Some};
 ghost use Rattle.type_trees.specs.View.{tree, val};
 ghost use Rattle.type_trees.specs.Bridge.{type_shape};
 ghost use Rattle.projection_laws.specs.Premises.{IsValid};
@@ -9,7 +9,7 @@ ghost use Rattle.json_values.specs.declared.faults.ValueFault.TheVariants.{OutOf
 ghost use Rattle.tool_samples.specs.lines.Lines as lines;
 ghost use Rattle.tool_runs.specs.output.Runs.{Comes};
 ghost use Rattle.xt_calls.specs.Calls as spec;
-ghost use Rattle.xt_calls.specs.Answering.{Taken};
+ghost use Rattle.tool_samples.specs.Sampling.{PlansFor, Taken};
 ghost use Rattle.xt_calls.specs.Opened.{front};
 
 use crate::answers::{
@@ -18,26 +18,30 @@ use crate::answers::{
 use crate::types::Types;
 use crate::words::pair_of;
 use dynamic_data::{ValueFault, from_json, to_json};
+use packed_json::{Plan, write_value};
+use packed_reader::read_plain;
 use settled_parts::Outcome;
 use std::alloc::Global;
 use tool_runs::output::Stop;
 use tool_samples::lines::malformed_text;
+use tool_samples::{plan_for, taken};
 use tool_verdicts::assignable;
 use type_trees::{Value, XType};
 use xcdr_model::Why;
-use xcdr_samples::read_sample;
 use xcdr_writer::{size_of_sample, write_sample};
 use xt_io::MemSink;
-use xt_lists::OutOfMemory;
+use xt_lists::{OutOfMemory, Text};
 use xt_shapes::{Order, Rep};
-use xt_wire::cursor::{DecodeFault, SliceCursor};
+use xt_wire::cursor::DecodeFault;
 
 /// A reader's type, which is assignable from a writer's, and the representation of the writer's samples.
 #[derive(Drop)]
 pub struct Reader {
     pub(crate) rep: Rep,
     pub(crate) ty: XType,
+    plan: Option<Plan>,
     ghost valid: { IsValid ty },
+    ghost planned: { PlansFor (tree ty) plan },
 }
 
 pub(crate) fn malformed(alloc: Global, at: u64, why: Why) -> Result<Answer, OutOfMemory>
@@ -131,7 +135,14 @@ impl Reader {
             Some(pair) => {
                 match assignable(alloc, &pair, types.declared.as_slice(), &types.pool) {
                     Err(stop) => Err(stop),
-                    Ok(ty) => Ok(Reader { rep: pair.rep, ty }),
+                    Ok(ty) => {
+                        let plan = plan_for(alloc, pair.rep, &ty);
+                        Ok(Reader {
+                            rep: pair.rep,
+                            ty,
+                            plan,
+                        })
+                    }
                 }
             }
         }
@@ -140,12 +151,34 @@ impl Reader {
     pub(crate) fn taken(&self, alloc: Global, sample: &[u8]) -> Result<Outcome, DecodeFault>
         ensures { Taken (read_sample self.now.rep (type_shape self.now.ty) sample.now) result }
     {
-        let mut cursor = SliceCursor::new(sample);
-        read_sample(alloc, self.rep, &self.ty, &mut cursor)
+        taken(alloc, self.rep, &self.ty, sample)
+    }
+
+    // A plain sample as JSON, by the plan of its type. None says nothing.
+    fn read_plain(&self, alloc: Global, sample: &[u8]) -> Option<Answer>
+        ensures { IfSome result (λ answer. answer ≡ spec.read_answer (tree self.now.ty) (read_sample self.now.rep (type_shape self.now.ty) sample.now)) }
+    {
+        let Some(plan) = &self.plan else {
+            return None;
+        };
+        let value = read_plain(alloc, self.rep, &self.ty, sample)?;
+        let mut text = Text::new(alloc);
+        write_value(plan, &value, &mut text)?;
+        Some(Answer { status: DONE, text })
     }
 
     /// What the reader's type makes of a sample, as JSON.
     pub fn read(&self, alloc: Global, sample: &[u8]) -> Result<Answer, OutOfMemory>
+        ensures { IfOk result (λ answer. answer ≡ spec.read_answer (tree self.now.ty) (read_sample self.now.rep (type_shape self.now.ty) sample.now)) }
+    {
+        match self.read_plain(alloc, sample) {
+            Some(answer) => Ok(answer),
+            None => self.read_general(alloc, sample),
+        }
+    }
+
+    // A sample that has to be read in general.
+    fn read_general(&self, alloc: Global, sample: &[u8]) -> Result<Answer, OutOfMemory>
         ensures { IfOk result (λ answer. answer ≡ spec.read_answer (tree self.now.ty) (read_sample self.now.rep (type_shape self.now.ty) sample.now)) }
     {
         match self.taken(alloc, sample) {

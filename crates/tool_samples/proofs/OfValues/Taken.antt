@@ -1,5 +1,5 @@
 -- A value whose record was written, or that was refused.
-use Rattle.std.proofs.Common.{◌≡◌, ℕ, List, [], ◌∷◌, ◌++◌, append-nil, None, Some, Result, Ok, Err, refl, sym, ap, ◌∙◌, subst}
+use Rattle.std.proofs.Common.{◌≡◌, ℕ, List, [], ◌∷◌, None, Some, Result, Ok, Err, sym, ap, ◌∙◌, subst}
 use Rattle.std.specs.declared.option.Option.{Option}
 use Rattle.std.specs.Option.{option_map}
 use Rattle.std.specs.Io.KnownBytes.{Appends}
@@ -12,8 +12,8 @@ use Rattle.tool_runs.specs.declared.output.halt.Halt.{Halt}
 use Rattle.tool_runs.specs.declared.output.halt.Halt.TheVariants as halts
 use Rattle.tool_runs.specs.declared.output.stop.Stop.{Stop}
 use Rattle.tool_runs.specs.declared.output.stop.Stop.TheVariants as stops
-use Rattle.tool_runs.specs.output.Outputs.{Output, Refusal, Turn, goes_on, over, after_pieces, after_turn, refused}
-use Rattle.tool_runs.specs.output.Runs.{Leads, Steps, TakesRecord, Writes, refusal}
+use Rattle.tool_runs.specs.output.Outputs.{Output, Turn, goes_on, over, after_pieces, after_turn, refused}
+use Rattle.tool_runs.specs.output.Runs.{Leads, Steps, TakesRecord, Writes}
 use Rattle.tool_runs.proofs.OfOutput.Written.{leads_piece, piece_is_cut, stops_here}
 use Rattle.tool_samples.specs.values.Values.{Turned}
 

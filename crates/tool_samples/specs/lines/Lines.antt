@@ -1,7 +1,7 @@
 -- The lines and records of the commands, and the turns of their bodies (this profile's own).
-use Rattle.std.specs.Prelude.{ℕ, List, [], ◌∷◌, ◌++◌, Option, Some, None, Result, Ok, Err, nat_lt, if◌then◌else◌, codes}
+use Rattle.std.specs.Prelude.{ℕ, List, [], ◌∷◌, ◌++◌, Some, None, Result, Ok, Err, nat_lt, if◌then◌else◌, codes}
 use Rattle.std.specs.Fmt.{decimal}
-use Rattle.xt_io.specs.declared.Kind.TheVariants.{Object, Sample, Note}
+use Rattle.xt_io.specs.declared.Kind.TheVariants.{Sample, Note}
 use Rattle.xt_io.specs.declared.Item.{Item}
 use Rattle.xt_shapes.specs.declared.leaves.Order.TheVariants.{Little}
 use Rattle.xt_shapes.specs.declared.leaves.Rep.{Rep}

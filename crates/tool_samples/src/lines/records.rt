@@ -1,14 +1,18 @@
-ghost use Rattle.std.specs.Prelude.{◌≡◌, ◌≤◌, IfOk};
+ghost use Rattle.std.specs.Prelude.{◌≡◌, ◌≤◌, ◌++◌, IfOk, OnOk, OnErr};
+ghost use Rattle.std.specs.Io.KnownBytes.{Appends};
+ghost use Rattle.xt_io.specs.Outside.{AppendsAll, AppendsPrefix, HasCause};
+ghost use Rattle.tool_runs.specs.output.Runs.{HaltsWriting};
 ghost use Rattle.type_trees.specs.View.{val};
 ghost use Rattle.type_trees.specs.Bridge.{type_shape};
 ghost use Rattle.xcdr_model.specs.SampleSpelling.{fixed_sample, sample_size};
-ghost use Rattle.xt_io.specs.Records.{record_octets};
+ghost use Rattle.xt_io.specs.Records.{head_octets, record_octets};
 
+use shape_laws::sample_sized;
 use std::alloc::Global;
-use tool_runs::output::record;
+use tool_runs::output::{Halt, record};
 use type_trees::{Value, XType};
 use xcdr_writer::write_sample;
-use xt_io::{Kind, MemSink};
+use xt_io::{Failed, Kind, MemSink, Sink, write_whole};
 use xt_lists::{OutOfMemory, Text};
 use xt_shapes::{Order, Rep};
 
@@ -27,4 +31,69 @@ pub fn sample_record(
         Ok(()) => record(alloc, Kind::Sample, sink.octets()),
         Err(_) => Err(OutOfMemory),
     }
+}
+
+// The head of a sample's record.
+fn sample_head(octets: u32) -> [u8; 5]
+    ensures { result ≡ head_octets Kind.Sample octets }
+{
+    let [first, second, third, fourth] = octets.to_be_bytes();
+    [Kind::Sample.octet(), first, second, third, fourth]
+}
+
+// A head, and the sample of a value behind it.
+fn write_headed<K: Sink>(
+    head: &[u8],
+    rep: Rep,
+    ty: &XType,
+    value: &Value,
+    sink: &mut K,
+) -> Result<(), Failed>
+    requires { sample_size rep (type_shape ty.now) (val value.now) ≤ 1048576 }
+    ensures whole { OnOk result (AppendsAll (K.taken sink.old) (K.taken sink.new) (head.now ++ fixed_sample rep Order.Little (type_shape ty.now) (val value.now))) }
+    ensures prefix { OnErr result (AppendsPrefix (K.taken sink.old) (K.taken sink.new) (head.now ++ fixed_sample rep Order.Little (type_shape ty.now) (val value.now))) }
+    ensures same { K.name sink.new ≡ K.name sink.old }
+    ensures cause { HasCause (K.faults sink.old) (K.faults sink.new) result }
+{
+    write_whole(sink, head)?;
+    write_sample(rep, ty, value, Order::Little, sink)
+}
+
+// The record of a value's sample, of so many octets.
+fn write_sample_record<K: Sink>(
+    rep: Rep,
+    ty: &XType,
+    value: &Value,
+    octets: u32,
+    sink: &mut K,
+) -> Result<(), Failed>
+    requires size { octets ≡ sample_size rep (type_shape ty.now) (val value.now) }
+    requires most { octets ≤ 1048576 }
+    ensures whole { OnOk result (AppendsAll (K.taken sink.old) (K.taken sink.new) (record_octets Kind.Sample (fixed_sample rep Order.Little (type_shape ty.now) (val value.now)))) }
+    ensures prefix { OnErr result (AppendsPrefix (K.taken sink.old) (K.taken sink.new) (record_octets Kind.Sample (fixed_sample rep Order.Little (type_shape ty.now) (val value.now)))) }
+    ensures same { K.name sink.new ≡ K.name sink.old }
+    ensures cause { HasCause (K.faults sink.old) (K.faults sink.new) result }
+{
+    sample_sized();
+    let head = sample_head(octets);
+    write_headed(head.as_slice(), rep, ty, value, sink)
+}
+
+/// Writes the record of a value's sample in little-endian order straight to the sink: its head, and the sample of so many octets. It takes
+/// no memory.
+pub fn say_sample<K: Sink>(
+    rep: Rep,
+    ty: &XType,
+    value: &Value,
+    octets: u32,
+    sink: &mut K,
+) -> Result<(), Halt>
+    requires size { octets ≡ sample_size rep (type_shape ty.now) (val value.now) }
+    requires most { octets ≤ 1048576 }
+    ensures text { OnOk result (Appends (K.taken sink.old) (K.taken sink.new) (record_octets Kind.Sample (fixed_sample rep Order.Little (type_shape ty.now) (val value.now)))) }
+    ensures prefix { OnErr result (AppendsPrefix (K.taken sink.old) (K.taken sink.new) (record_octets Kind.Sample (fixed_sample rep Order.Little (type_shape ty.now) (val value.now)))) }
+    ensures halts { HaltsWriting (K.faults sink.old) (K.faults sink.new) result }
+    ensures same { K.name sink.new ≡ K.name sink.old }
+{
+    Ok(write_sample_record(rep, ty, value, octets, sink)?)
 }

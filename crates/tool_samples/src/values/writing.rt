@@ -5,50 +5,47 @@ ghost use Rattle.projection_laws.specs.Premises.{IsValid};
 ghost use Rattle.tool_runs.specs.output.Outputs.{Output, after_turn};
 ghost use Rattle.tool_runs.specs.output.Runs.{Steps, StopsWriting};
 ghost use Rattle.tool_samples.specs.lines.Lines as lines;
-ghost use Rattle.tool_samples.specs.values.Values.{Turned};
+ghost use Rattle.tool_samples.specs.values.Values.{TurnsTo};
 
-use crate::lines::sample_record;
+use crate::lines::say_sample;
 use crate::values::refusals::{refuse_json, refuse_value};
 use dynamic_data::from_json;
 use std::alloc::Global;
-use tool_runs::output::{Halt, Stop, Style, say};
+use tool_runs::output::{Stop, Style};
 use type_trees::{Value, XType};
 use xcdr_writer::size_of_sample;
 use xt_io::Sink;
-use xt_lists::Text;
 use xt_shapes::Rep;
 
-// The record of a value's sample, where it isn't too large.
-fn value_record(
+// A value whose sample isn't too large, with the sample's octets.
+fn sized(
     alloc: Global,
     ty: &XType,
     rep: Rep,
     number: u32,
-    value: &Value,
-) -> Result<Text, Stop>
-    ensures { Turned (lines.written rep (tree ty.now) number (Ok (val value.now))) result }
+    value: Value,
+) -> Result<(Value, u32), Stop>
+    ensures { TurnsTo rep (tree ty.now) (lines.written rep (tree ty.now) number (Ok (val value))) result }
 {
-    match size_of_sample(rep, ty, value) {
+    match size_of_sample(rep, ty, &value) {
         None => Err(refuse_json(alloc, number, b"LARGE /")),
-        Some(_) => match sample_record(alloc, rep, ty, value) {
-            Ok(piece) => Ok(piece),
-            Err(_) => Err(Stop::Halted(Halt::OutOfMemory)),
-        },
+        Some(octets) => Ok((value, octets)),
     }
 }
 
-fn json_record(
+// The value of a JSON text, with its sample's octets.
+fn read_value(
     alloc: Global,
     ty: &XType,
     rep: Rep,
     number: u32,
     payload: &[u8],
-) -> Result<Text, Stop>
+) -> Result<(Value, u32), Stop>
     requires { IsValid ty.now }
-    ensures { Turned (lines.written rep (tree ty.now) number (read_as (tree ty.now) payload.now)) result }
+    ensures { TurnsTo rep (tree ty.now) (lines.written rep (tree ty.now) number (read_as (tree ty.now) payload.now)) result }
 {
     match from_json(alloc, ty, payload) {
-        Ok(value) => value_record(alloc, ty, rep, number, &value),
+        Ok(value) => sized(alloc, ty, rep, number, value),
         Err(fault) => Err(refuse_value(alloc, number, fault)),
     }
 }
@@ -67,9 +64,9 @@ pub fn write_value<K: Sink>(
     ensures stops { StopsWriting (K.faults sink.old) (K.faults sink.new) result }
     ensures same { K.name sink.new ≡ K.name sink.old }
 {
-    match json_record(alloc, ty, rep, number, payload) {
+    match read_value(alloc, ty, rep, number, payload) {
         Err(stop) => Err(stop),
-        Ok(piece) => match say(sink, piece.octets()) {
+        Ok((value, octets)) => match say_sample(rep, ty, &value, octets, sink) {
             Ok(()) => Ok(()),
             Err(halt) => Err(Stop::Halted(halt)),
         },

@@ -1,5 +1,4 @@
-use Rattle.std.proofs.Common.{◌≡◌, ℕ, ◌+◌, List, Result, Ok, Err, None, Some, subst}
-use Rattle.std.specs.Option.{option_map}
+use Rattle.std.proofs.Common.{◌≡◌, ℕ, ◌+◌, List, None, Some, subst}
 use Rattle.xt_io.specs.declared.Item.{Item}
 use Rattle.xt_io.specs.declared.Kind.TheVariants.{Json}
 use Rattle.xt_io.specs.Bundles.{Bundle, with_payload, item_of}
@@ -7,7 +6,6 @@ use Rattle.xt_io.specs.Readers.{inside}
 use Rattle.type_trees.specs.View.{tree}
 use Rattle.json_values.specs.Read.{read_as}
 use Rattle.tool_runs.specs.declared.output.ending.Style.TheVariants.{Records}
-use Rattle.tool_runs.specs.declared.output.stop.Stop.{Stop}
 use Rattle.tool_runs.specs.output.Outputs.{Output, Turn, after_turn, run, taking, finished}
 use Rattle.tool_runs.specs.output.Runs.{Steps, both}
 use Rattle.tool_runs.proofs.OfOutput.Turning.{payload_stops, run_at_fault, run_at_taken}

@@ -17,7 +17,7 @@ use Rattle.xt_wire.specs.declared.cursor.faults.DecodeFault.{DecodeFault}
 use Rattle.xt_wire.specs.declared.cursor.faults.DecodeFault.TheVariants.{ReadFault, OutOfMemory}
 use Rattle.settled_parts.specs.declared.settling.Outcome.{Outcome as Settled}
 use Rattle.settled_parts.specs.Settling.{outcome_val}
-use Rattle.xt_calls.specs.Answering.{Taken}
+use Rattle.tool_samples.specs.Sampling.{Taken}
 
 said_ok : {T : Type 0} (view : T → Outcome) (q : Result Outcome Fault) (s : Spot) (a b : Standing) (xs : List ℕ) (x : T) → Answers view a b xs (over_region s q) (Ok x) → q ≡ Ok (view x)
 said_ok view (Ok y) s a b xs x d = ap (λ (z : Outcome). Ok z) (sym d.value)

@@ -1,0 +1,8 @@
+pub mod Lists
+pub mod Plain
+pub mod Meanings
+pub mod HexDigits
+pub mod Orders
+pub mod Structures
+pub mod ListLaws
+pub mod Numbered

@@ -1,0 +1,60 @@
+-- One number more.
+use Rattle.std.proofs.Common.{◌≡◌, refl, ◌∙◌, ℕ, suc, ◌+◌, ◌-◌, ◌<◌, ◌≤◌, Bool, true, List, [], ◌∷◌, ◌++◌, ◌^◌, length, take, drop, get_or, nat_lt, decimal, append_assoc, arith}
+use Rattle.std.proofs.lemmas.Bool.{and_parts, ltb-true, lt-ltb}
+use Rattle.std.proofs.lemmas.List.{drop_all}
+use Rattle.std.proofs.Math.Seq.{drop-cons}
+use Rattle.serde_json.specs.Written.{compact_text, comma_if}
+use Rattle.xt_shapes.specs.Lists.{all}
+use Rattle.xt_shapes.specs.declared.leaves.Order.{Order}
+use Rattle.xt_shapes.specs.declared.leaves.Order.TheVariants.{Big, Little}
+use Rattle.xt_shapes.specs.declared.leaves.Primitive.{Primitive}
+use Rattle.xt_shapes.specs.declared.leaves.Primitive.TheVariants.{Byte}
+use Rattle.xcdr_model.specs.Numbers.{number, with_sign}
+use Rattle.xt_shapes.specs.Sizes.{size}
+use Rattle.json_values.specs.Written.{int_data, prim_data}
+use Rattle.packed_values.specs.View.{number_of}
+use Rattle.packed_json.specs.Lists.{numbers_text, octets_text}
+
+pub numbers_next : (p : Primitive) (o : Order) (later : Bool) (n i : ℕ) (ys first more out comma behind : List ℕ) → i < n → first ≡ take (size p) ys → more ≡ drop (size p) ys → comma ≡ out ++ comma_if later → behind ≡ comma ++ compact_text (int_data (prim_data p) (number_of p o first))
+    → behind ++ numbers_text p o true (n - (i + 1)) more ≡ out ++ numbers_text p o later (n - i) ys
+numbers_next p o later n i ys first more out comma behind within is_first is_more is_comma is_behind =
+    let k = n - (i + 1) in
+    let next : n - i ≡ suc k = omega arith in
+    let text = compact_text (int_data (prim_data p) (number_of p o (take (size p) ys))) in
+    let rest = numbers_text p o true k (drop (size p) ys) in
+    rw (is_behind, is_comma, is_first, is_more, next) (append_assoc (out ++ comma_if later) text rest ∙ append_assoc out (comma_if later) (text ++ rest))
+
+pub numbers_end : (p : Primitive) (o : Order) (later : Bool) (n i : ℕ) (ys out : List ℕ) → n ≤ i → out ++ numbers_text p o later (n - i) ys ≡ out ++ 93 ∷ []
+numbers_end p o later n i ys out past =
+    let none : n - i ≡ 0 = omega arith in
+    rw none refl
+
+-- ---- octets by blocks
+
+pub octets_next : (xs : List ℕ) (i : ℕ) (later : Bool) (out block out2 block2 block3 block4 : List ℕ) → i < length xs → out2 ++ block2 ≡ out ++ block → block3 ≡ block2 ++ comma_if later → block4 ≡ block3 ++ decimal (get_or xs i 0)
+    → (out2 ++ block4) ++ octets_text true (drop (i + 1) xs) ≡ (out ++ block) ++ octets_text later (drop i xs)
+octets_next xs i later out block out2 block2 block3 block4 within kept comma digits =
+    let next : i + 1 ≡ suc i = omega arith in
+    let cut : drop i xs ≡ get_or xs i 0 ∷ drop (suc i) xs = drop-cons xs i 0 within in
+    rw (digits, comma, next, cut, ← kept) (simp append_assoc)
+
+pub octets_end : (xs : List ℕ) (i : ℕ) (later : Bool) (all : List ℕ) → length xs ≤ i → all ++ octets_text later (drop i xs) ≡ all ++ 93 ∷ []
+octets_end xs i later all past = rw (drop_all i xs past) refl
+
+-- octets are the numbers of the primitive for octets
+number_is : (o : Order) (x : ℕ) → number o (x ∷ []) ≡ x
+unfolding number
+number_is Little x = omega arith
+number_is Big x = omega arith
+
+octet_data : (o : Order) (x : ℕ) → x < 256 → compact_text (int_data (prim_data Byte) (number_of Byte o (x ∷ []))) ≡ decimal x
+unfolding with_sign
+octet_data o x small =
+    let below : nat_lt x (256 ^ 1) ≡ true = lt-ltb x (256 ^ 1) small in
+    rw (number_is o x, below) refl
+
+pub octets_are : (o : Order) (later : Bool) (xs : List ℕ) → all (λ x. nat_lt x 256) xs ≡ true → numbers_text Byte o later (length xs) xs ≡ octets_text later xs
+octets_are o later [] each = refl
+octets_are o later (x ∷ xs) each =
+    let parts = and_parts (nat_lt x 256) (all (λ y. nat_lt y 256) xs) each in
+    rw (octet_data o x (ltb-true x 256 parts.0), octets_are o true xs parts.1) refl

@@ -1,0 +1,36 @@
+-- What plans mean, level by level.
+use Rattle.std.proofs.Common.{◌≡◌, List, map, rules, Box, Global}
+use Rattle.xt_shapes.specs.declared.leaves.Primitive.{Primitive}
+use Rattle.json_values.specs.Written.{int_data, prim_data, mask_data, octets_data}
+use Rattle.packed_json.specs.declared.plan.Named.{Named}
+use Rattle.packed_json.specs.declared.plan.Plan as p
+use Rattle.packed_json.specs.declared.plan.Plan.{Plan, the_lemmas}
+use Rattle.packed_json.specs.declared.plan.PlannedMember.{PlannedMember}
+use Rattle.packed_json.specs.declared.plan.Structure.{Structure, out-Structure}
+use Rattle.packed_json.specs.Plans.{meaning, part, parts_of, leaf_meaning, literal_meaning, list_meaning, struct_meaning}
+
+pub plan_prim : (x : Primitive) → meaning (p.Prim x) ≡ leaf_meaning (int_data (prim_data x))
+plan_prim x = search (rules, the_lemmas)
+
+pub plan_text : meaning p.Text ≡ leaf_meaning octets_data
+plan_text = search (rules, the_lemmas)
+
+pub plan_mask : meaning p.Mask ≡ leaf_meaning (int_data mask_data)
+plan_mask = search (rules, the_lemmas)
+
+pub plan_enum : (xs : List Named) → meaning (p.Enum xs) ≡ literal_meaning xs
+plan_enum xs = search (rules, the_lemmas)
+
+pub plan_list : (b : Box Plan Global) → meaning (p.List b) ≡ list_meaning (meaning b.value)
+plan_list b = search (rules, the_lemmas)
+
+pub plan_struct : (s : Structure) → meaning (p.Struct s) ≡ struct_meaning (parts_of s)
+plan_struct s = search (rules, the_lemmas)
+
+pub part_is : (m : PlannedMember) → part m ≡ record { at = m.at; key = m.key; value = meaning m.plan }
+part_is m = search (rules, the_lemmas)
+
+pub parts_are : (s : Structure) → let x = out-Structure s in parts_of s ≡ record { count = x.count; parts = map part x.members }
+parts_are s = search (rules, the_lemmas)
+
+pub ruleset plan_rules = (plan_prim, plan_text, plan_mask, plan_enum, plan_list, plan_struct, part_is, parts_are)

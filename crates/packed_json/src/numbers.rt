@@ -1,0 +1,165 @@
+//! Numbers and lists of numbers, appended.
+ghost use Rattle.std.specs.Prelude.{◌≡◌, ◌≤◌, ◌++◌, false, IfSome, length};
+ghost use Rattle.serde_json.specs.Written.{compact_text, comma_if};
+ghost use Rattle.xt_shapes.specs.Sizes as sizes;
+ghost use Rattle.xt_shapes.specs.declared.leaves.Primitive.TheVariants.{Byte};
+ghost use Rattle.json_values.specs.Written as json;
+ghost use Rattle.std.specs.Ordering.{int_eq};
+ghost use Rattle.std.specs.Prelude.{pos, negsuc, int_le, true};
+ghost use Rattle.serde_json.specs.Data.{boolean};
+ghost use Rattle.packed_values.specs.View.{number_of};
+ghost use Rattle.packed_json.specs.Lists.{numbers_text, octets_text};
+
+use crate::bits::{put_double, put_single};
+use crate::block::{Block, add_digits, make_room};
+use crate::texts::{put, put_comma};
+use packed_values::Numbers;
+use type_values::is_of_prim;
+use xt_lists::Text;
+use xt_shapes::{Order, Prim};
+use xt_wire::numbers::{number, prim_size, prim_value};
+
+// A number below zero.
+#[inline(always)]
+fn put_negative(number: i64, out: &mut Text) -> Option<()>
+    requires { int_le number (negsuc 0) ≡ true }
+    ensures { IfSome result (λ u. out.new ≡ out.old ++ compact_text (json.whole number)) }
+{
+    let mut buffer = itoa::Buffer::new();
+    put(buffer.format(number).as_bytes(), out)
+}
+
+// A number that isn't below zero.
+#[inline(always)]
+fn put_natural(number: u64, out: &mut Text) -> Option<()>
+    ensures { IfSome result (λ u. out.new ≡ out.old ++ compact_text (json.whole (pos number))) }
+{
+    let mut buffer = itoa::Buffer::new();
+    put(buffer.format(number).as_bytes(), out)
+}
+
+/// A whole number of at most 64 bits.
+#[inline(always)]
+pub(crate) fn put_whole(number: i128, out: &mut Text) -> Option<()>
+    requires low { int_le (negsuc 9223372036854775807) number ≡ true }
+    requires high { int_le number (pos 18446744073709551615) ≡ true }
+    ensures { IfSome result (λ u. out.new ≡ out.old ++ compact_text (json.whole number)) }
+{
+    if number < 0 {
+        return put_negative(number as i64, out);
+    }
+    put_natural(number as u64, out)
+}
+
+#[inline(always)]
+fn put_truth(is_true: bool, out: &mut Text) -> Option<()>
+    ensures { IfSome result (λ u. out.new ≡ out.old ++ compact_text (boolean is_true)) }
+{
+    if is_true {
+        return put(b"true", out);
+    }
+    put(b"false", out)
+}
+
+/// A number of a primitive.
+#[inline(always)]
+pub(crate) fn put_prim(prim: Prim, number: i128, out: &mut Text) -> Option<()>
+    ensures { IfSome result (λ u. out.new ≡ out.old ++ compact_text (json.prim_data prim number)) }
+{
+    if !is_of_prim(prim, number) {
+        return None;
+    }
+    match prim {
+        Prim::Boolean => put_truth(number == 1, out),
+        Prim::Float32 => put_single(number as u32, out),
+        Prim::Float64 => put_double(number as u64, out),
+        Prim::Byte
+        | Prim::Int8
+        | Prim::Uint8
+        | Prim::Int16
+        | Prim::Uint16
+        | Prim::Int32
+        | Prim::Uint32
+        | Prim::Int64
+        | Prim::Uint64
+        | Prim::Char8 => put_whole(number, out),
+    }
+}
+
+#[inline(always)]
+fn put_number(prim: Prim, order: Order, octets: &[u8], out: &mut Text) -> Option<()>
+    requires { length octets.now ≡ sizes.size prim }
+    ensures { IfSome result (λ u. out.new ≡ out.old ++ compact_text (json.int_data (json.prim_data prim) (number_of prim order octets.now))) }
+{
+    put_prim(prim, prim_value(prim, number(order, octets)), out)
+}
+
+/// Appends the JSON of a list of numbers, behind its opening bracket. None says nothing, and what was appended is to be thrown away.
+pub(crate) fn put_numbers(numbers: &Numbers<'_>, out: &mut Text) -> Option<()>
+    ensures { IfSome result (λ u. out.new ≡ out.old ++ numbers_text numbers.now.prim numbers.now.order false numbers.now.count numbers.now.octets.now) }
+{
+    let size = prim_size(numbers.prim) as usize;
+    let mut rest = numbers.octets;
+    let mut is_later = false;
+    for turn in 0..numbers.count {
+        if rest.len() < size {
+            return None;
+        }
+        put_comma(is_later, out)?;
+        let (first, more) = rest.split_at(size);
+        put_number(numbers.prim, numbers.order, first, out)?;
+        rest = more;
+        is_later = true;
+    }
+    put(b"]", out)?;
+    Some(())
+}
+
+// A comma, where something stands before.
+#[inline(always)]
+fn add_comma(is_later: bool, block: &mut Block)
+    requires { length block.old ≤ 496 }
+    ensures { block.new ≡ block.old ++ comma_if is_later }
+{
+    if is_later {
+        block.add(44);
+    }
+}
+
+/// Appends the JSON of a list of octets, behind its opening bracket, a block at a time.
+pub(crate) fn put_octets(octets: &[u8], out: &mut Text) -> Option<()>
+    ensures { IfSome result (λ u. out.new ≡ out.old ++ octets_text false octets.now) }
+{
+    let mut block = Block::new();
+    let mut is_later = false;
+    for octet in octets {
+        make_room(&mut block, out)?;
+        add_comma(is_later, &mut block);
+        add_digits(*octet, &mut block);
+        is_later = true;
+    }
+    put(block.octets(), out)?;
+    put(b"]", out)?;
+    Some(())
+}
+
+// A list of so many octets.
+fn put_bytes(order: Order, count: u64, octets: &[u8], out: &mut Text) -> Option<()>
+    ensures { IfSome result (λ u. out.new ≡ out.old ++ numbers_text Byte order false count octets.now) }
+{
+    if octets.len() as u64 != count {
+        return None;
+    }
+    put_octets(octets, out)?;
+    Some(())
+}
+
+/// Appends the JSON of a list of numbers, behind its opening bracket.
+pub(crate) fn put_list(numbers: &Numbers<'_>, out: &mut Text) -> Option<()>
+    ensures { IfSome result (λ u. out.new ≡ out.old ++ numbers_text numbers.now.prim numbers.now.order false numbers.now.count numbers.now.octets.now) }
+{
+    match numbers.prim {
+        Prim::Byte => put_bytes(numbers.order, numbers.count, numbers.octets, out),
+        _ => put_numbers(numbers, out),
+    }
+}

@@ -1,0 +1,207 @@
+//! What is settled of a type once: in which order its members' names come, and what stands before each value.
+ghost use Rattle.std.specs.Prelude.{◌≡◌, ◌<◌, ◌++◌, ◌∷◌, [], ℕ, length, map, false, IfSome};
+ghost use Rattle.json.specs.Print.{quoted};
+ghost use Rattle.serde_json.specs.Data.{Data, put, no_members};
+ghost use Rattle.type_trees.specs.View.{tree, struct_tree};
+ghost use Rattle.json_values.specs.Names.{name_text};
+ghost use Rattle.packed_json.specs.Plans.{IsPlanOf, IsPlanned, PlansMembers, PlansLiterals, IsListPlanOf, entries_by, put_from, key_text, meaning, part, parts_of, struct_meaning, list_meaning, literal_meaning};
+
+use crate::texts::{put, put_comma, put_quoted};
+use std::alloc::Global;
+use std::collections::BTreeMap;
+use type_trees::{Elem, EnumType, Literal, Member, Name, StructType, XType};
+use xt_lists::{Row, Text};
+use xt_shapes::Prim;
+
+/// How values of a type are written.
+#[derive(Debug, Drop)]
+#[cycle(plan)]
+pub enum Plan {
+    Prim(Prim),
+    Text,
+    Mask,
+    /// The literals of an enumeration.
+    Enum(Row<Named>),
+    /// The items of a sequence or of an array.
+    List(Box<Plan>),
+    Struct(Structure),
+}
+
+/// A literal's value, and its name in quotes.
+#[derive(Debug, Drop)]
+pub struct Named {
+    pub value: i32,
+    pub text: Text,
+}
+
+/// How many members a structure has, and these in the order of their names.
+#[derive(Debug, Drop)]
+#[cycle(plan)]
+pub struct Structure {
+    pub count: usize,
+    pub members: Row<PlannedMember>,
+}
+
+/// A member: its position in declared order, what stands before its value (a comma, where it isn't the first, its name in quotes and a
+/// colon), and how the value is written.
+#[derive(Debug, Drop)]
+#[cycle(plan)]
+pub struct PlannedMember {
+    pub at: usize,
+    pub key: Text,
+    pub plan: Plan,
+}
+
+// A name in quotes. A hashed name has none.
+fn quoted_name(alloc: Global, name: &Name) -> Option<Text>
+    ensures { IfSome result (λ text. text ≡ quoted (name_text name.now)) }
+{
+    let Name::Full(full) = name else {
+        return None;
+    };
+    let mut text = Text::new(alloc);
+    put_quoted(full.octets(), &mut text)?;
+    Some(text)
+}
+
+// The names of literals, in quotes.
+fn plan_literals(alloc: Global, literals: &[Literal]) -> Option<Row<Named>>
+    ensures { IfSome result (λ named. PlansLiterals literals.now named) }
+{
+    let mut named = Row::new(alloc);
+    for literal in literals {
+        let text = quoted_name(alloc, &literal.name)?;
+        let Ok(()) = named.push(Named {
+            value: literal.value,
+            text,
+        }) else {
+            return None;
+        };
+    }
+    Some(named)
+}
+
+// Lists a member under its name.
+fn put_name<'n>(member: &'n Member, at: usize, order: &mut BTreeMap<&'n [u8], usize>) -> Option<()>
+    ensures { IfSome result (λ u. (f : ℕ → Data) → entries_by f order.new.entries ≡ put (name_text member.now.name) (f at) (entries_by f order.old.entries)) }
+{
+    let Name::Full(full) = &member.name else {
+        return None;
+    };
+    match order.insert(full.octets(), at) {
+        Ok(_) => Some(()),
+        Err(_) => None,
+    }
+}
+
+// The positions of members by their names.
+fn order_of(alloc: Global, members: &[Member]) -> Option<BTreeMap<&[u8], usize>>
+    ensures { IfSome result (λ order. (f : ℕ → Data) → entries_by f order.entries ≡ put_from f 0 members.now no_members) }
+{
+    let mut order = BTreeMap::new(alloc);
+    for at in 0..members.len() {
+        put_name(&members[at], at, &mut order)?;
+    }
+    Some(order)
+}
+
+// What stands before a member's value.
+fn key_of(alloc: Global, is_later: bool, name: &[u8]) -> Option<Text>
+    ensures { IfSome result (λ text. text ≡ key_text is_later name.now) }
+{
+    let mut text = Text::new(alloc);
+    put_comma(is_later, &mut text)?;
+    put_quoted(name, &mut text)?;
+    put(b":", &mut text)?;
+    Some(text)
+}
+
+#[cycle(planning)]
+fn plan_member(
+    alloc: Global,
+    members: &[Member],
+    is_later: bool,
+    name: &[u8],
+    at: usize,
+) -> Option<PlannedMember>
+    ensures { IfSome result (λ p. IsPlanned members.now is_later (name.entry, at) (part p)) }
+{
+    if at >= members.len() {
+        return None;
+    }
+    let key = key_of(alloc, is_later, name)?;
+    let plan = plan_of(alloc, &members[at].ty)?;
+    Some(PlannedMember { at, key, plan })
+}
+
+#[cycle(planning)]
+fn plan_members(
+    alloc: Global,
+    members: &[Member],
+    order: &BTreeMap<&[u8], usize>,
+) -> Option<Row<PlannedMember>>
+    ensures { IfSome result (λ planned. PlansMembers members.now order.now.entries (map part planned)) }
+{
+    let mut planned = Row::new(alloc);
+    let mut is_later = false;
+    for (name, at) in order.iter() {
+        let member = plan_member(alloc, members, is_later, name, *at)?;
+        let Ok(()) = planned.push(member) else {
+            return None;
+        };
+        is_later = true;
+    }
+    Some(planned)
+}
+
+#[cycle(planning)]
+fn plan_structure(alloc: Global, kind: &StructType) -> Option<Plan>
+    ensures { IfSome result (λ plan. IsPlanOf (struct_tree kind.now) (meaning plan)) }
+{
+    let members = kind.members.as_slice();
+    let order = order_of(alloc, members)?;
+    let planned = plan_members(alloc, members, &order)?;
+    Some(Plan::Struct(Structure {
+        count: members.len(),
+        members: planned,
+    }))
+}
+
+#[cycle(planning)]
+fn plan_list(alloc: Global, elem: &Elem) -> Option<Plan>
+    ensures { IfSome result (λ plan. IsListPlanOf (tree elem.now.ty) (meaning plan)) }
+{
+    let item = plan_of(alloc, &elem.ty)?;
+    match Box::new(alloc, item) {
+        Ok(item) => Some(Plan::List(item)),
+        Err(_) => None,
+    }
+}
+
+/// The plan of a type. None says nothing: the type has a part that no plan is made of, or memory is wanting.
+#[cycle(planning)]
+#[tactic(auto, using(type_trees::proofs::Views::tree_rules))]
+pub fn plan_of(alloc: Global, ty: &XType) -> Option<Plan>
+    ensures { IfSome result (λ plan. IsPlanOf (tree ty.now) (meaning plan)) }
+{
+    match ty {
+        XType::Prim(prim) => Some(Plan::Prim(*prim)),
+        XType::Str(_) => Some(Plan::Text),
+        XType::Mask(_) => Some(Plan::Mask),
+        XType::Enum(kind) => {
+            let named = plan_literals(alloc, kind.literals.as_slice())?;
+            Some(Plan::Enum(named))
+        }
+        XType::Seq(kind) => {
+            let plan = plan_list(alloc, &kind.elem)?;
+            Some(plan)
+        }
+        XType::Array(kind) => {
+            let plan = plan_list(alloc, &kind.elem)?;
+            Some(plan)
+        }
+        XType::Struct(kind) => plan_structure(alloc, kind),
+        XType::Alias(kind) => plan_of(alloc, &kind.ty),
+        XType::Map(_) | XType::Union(_) => None,
+    }
+}

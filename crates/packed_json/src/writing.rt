@@ -1,0 +1,177 @@
+//! Values, appended as their plan says.
+ghost use Rattle.std.specs.Prelude.{◌≡◌, ◌++◌, false, map, IfSome};
+ghost use Rattle.serde_json.specs.Written.{comma_if};
+ghost use Rattle.xt_shapes.specs.Vals.{int, text, listed, struct_of, vals_of, slots_of};
+ghost use Rattle.json_values.specs.Written.{int_data, prim_data, mask_data, octets_data};
+ghost use Rattle.packed_values.specs.View.{packed_val, packed_slot, numbers_of};
+ghost use Rattle.packed_json.specs.Plans.{Writes, WritesItems, WritesPart, WritesParts, are_present, leaf_meaning, list_meaning, literal_meaning, meaning, part, parts_of, struct_meaning};
+
+use crate::numbers::{put_list, put_prim, put_whole};
+use crate::plan::{Named, Plan, PlannedMember, Structure};
+use crate::texts::{put, put_comma, put_text};
+use packed_values::{Numbers, Packed, PackedSlot};
+use type_values::is_of_prim;
+use xt_lists::Text;
+use xt_shapes::Prim;
+
+// A number of a primitive.
+fn write_number(prim: Prim, number: i128, out: &mut Text) -> Option<()>
+    ensures { IfSome result (λ u. Writes (leaf_meaning (int_data (prim_data prim))) (int number) out.old out.new) }
+{
+    put_prim(prim, number, out)
+}
+
+fn write_mask(number: i128, out: &mut Text) -> Option<()>
+    ensures { IfSome result (λ u. Writes (leaf_meaning (int_data mask_data)) (int number) out.old out.new) }
+{
+    if !is_of_prim(Prim::Uint64, number) {
+        return None;
+    }
+    put_whole(number, out)
+}
+
+fn write_literal(named: &[Named], number: i128, out: &mut Text) -> Option<()>
+    ensures { IfSome result (λ u. Writes (literal_meaning named.now) (int number) out.old out.new) }
+{
+    for literal in named {
+        if i128::from(literal.value) == number {
+            return put(literal.text.octets(), out);
+        }
+    }
+    None
+}
+
+fn write_text(octets: &[u8], out: &mut Text) -> Option<()>
+    ensures { IfSome result (λ u. Writes (leaf_meaning octets_data) (text octets.now) out.old out.new) }
+{
+    put_text(octets, out)
+}
+
+// An integer of a type that has them.
+#[tactic(auto, using(crate::proofs::Meanings::plan_rules))]
+fn write_integer(plan: &Plan, number: i128, out: &mut Text) -> Option<()>
+    ensures { IfSome result (λ u. Writes (meaning plan.now) (int number) out.old out.new) }
+{
+    match plan {
+        Plan::Prim(prim) => write_number(*prim, number, out),
+        Plan::Mask => write_mask(number, out),
+        Plan::Enum(named) => write_literal(named.as_slice(), number, out),
+        Plan::Text | Plan::List(_) | Plan::Struct(_) => None,
+    }
+}
+
+// A list of numbers of the primitive that the items are.
+fn write_numbers(prim: Prim, numbers: &Numbers<'_>, out: &mut Text) -> Option<()>
+    ensures { IfSome result (λ u. Writes (list_meaning (leaf_meaning (int_data (prim_data prim)))) (listed (vals_of (numbers_of numbers.now))) out.old out.new) }
+{
+    if prim != numbers.prim {
+        return None;
+    }
+    put(b"[", out)?;
+    put_list(numbers, out)?;
+    Some(())
+}
+
+// A list of numbers, where the items are numbers.
+#[tactic(auto, using(crate::proofs::Meanings::plan_rules))]
+fn write_packed_list(item: &Plan, numbers: &Numbers<'_>, out: &mut Text) -> Option<()>
+    ensures { IfSome result (λ u. Writes (list_meaning (meaning item.now)) (listed (vals_of (numbers_of numbers.now))) out.old out.new) }
+{
+    match item {
+        Plan::Prim(prim) => write_numbers(*prim, numbers, out),
+        Plan::Text | Plan::Mask | Plan::Enum(_) | Plan::List(_) | Plan::Struct(_) => None,
+    }
+}
+
+#[cycle(writing)]
+fn write_items(plan: &Plan, values: &[Packed<'_>], out: &mut Text) -> Option<()>
+    ensures { IfSome result (λ u. WritesItems (meaning plan.now) (map packed_val values.now) out.old out.new) }
+{
+    let mut is_later = false;
+    for value in values {
+        put_comma(is_later, out)?;
+        write_value(plan, value, out)?;
+        is_later = true;
+    }
+    put(b"]", out)?;
+    Some(())
+}
+
+// Whether there are so many slots, and each is present.
+fn are_all_present(count: usize, slots: &[PackedSlot<'_>]) -> bool
+    ensures { result ≡ are_present count (slots_of (map packed_slot slots.now)) }
+{
+    if slots.len() != count {
+        return false;
+    }
+    for slot in slots {
+        if let PackedSlot::Absent = slot {
+            return false;
+        }
+    }
+    true
+}
+
+#[cycle(writing)]
+fn write_member(member: &PlannedMember, slots: &[PackedSlot<'_>], out: &mut Text) -> Option<()>
+    ensures { IfSome result (λ u. WritesPart (part member.now) (slots_of (map packed_slot slots.now)) out.old out.new) }
+{
+    if member.at >= slots.len() {
+        return None;
+    }
+    let PackedSlot::Present(value) = &slots[member.at] else {
+        return None;
+    };
+    put(member.key.octets(), out)?;
+    write_value(&member.plan, value, out)?;
+    Some(())
+}
+
+#[cycle(writing)]
+fn write_members(members: &[PlannedMember], slots: &[PackedSlot<'_>], out: &mut Text) -> Option<()>
+    ensures { IfSome result (λ u. WritesParts (map part members.now) (slots_of (map packed_slot slots.now)) out.old out.new) }
+{
+    for member in members {
+        write_member(member, slots, out)?;
+    }
+    put(b"}", out)?;
+    Some(())
+}
+
+#[cycle(writing)]
+fn write_structure(kind: &Structure, slots: &[PackedSlot<'_>], out: &mut Text) -> Option<()>
+    ensures { IfSome result (λ u. Writes (struct_meaning (parts_of kind.now)) (struct_of (slots_of (map packed_slot slots.now))) out.old out.new) }
+{
+    if !are_all_present(kind.count, slots) {
+        return None;
+    }
+    put(b"{", out)?;
+    write_members(kind.members.as_slice(), slots, out)?;
+    Some(())
+}
+
+#[cycle(writing)]
+fn write_list(plan: &Plan, values: &[Packed<'_>], out: &mut Text) -> Option<()>
+    ensures { IfSome result (λ u. Writes (list_meaning (meaning plan.now)) (listed (vals_of (map packed_val values.now))) out.old out.new) }
+{
+    put(b"[", out)?;
+    write_items(plan, values, out)?;
+    Some(())
+}
+
+/// Appends the JSON of a value by its type's plan. None says nothing, and what was appended is to be thrown away.
+#[cycle(writing)]
+#[tactic(auto, using(crate::proofs::Meanings::plan_rules, packed_values::proofs::Views::packed_rules))]
+pub fn write_value(plan: &Plan, value: &Packed<'_>, out: &mut Text) -> Option<()>
+    ensures { IfSome result (λ u. Writes (meaning plan.now) (packed_val value.now) out.old out.new) }
+{
+    match (plan, value) {
+        (plan, Packed::Natural(number)) => write_integer(plan, i128::from(*number), out),
+        (plan, Packed::Whole(number)) => write_integer(plan, i128::from(*number), out),
+        (Plan::Text, Packed::Text(octets)) => write_text(octets, out),
+        (Plan::List(item), Packed::Numbers(numbers)) => write_packed_list(item, numbers, out),
+        (Plan::List(item), Packed::List(values)) => write_list(item, values.as_slice(), out),
+        (Plan::Struct(kind), Packed::Struct(slots)) => write_structure(kind, slots.as_slice(), out),
+        _ => None,
+    }
+}

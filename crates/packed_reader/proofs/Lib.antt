@@ -1,0 +1,10 @@
+pub mod Steps
+pub mod Alignment
+pub mod LeafSteps
+pub mod NumberSteps
+pub mod ListSteps
+pub mod Taken
+pub mod MemberSteps
+pub mod PieceSteps
+pub mod KindSteps
+pub mod SampleSteps

@@ -1,0 +1,238 @@
+use Rattle.std.proofs.Common.{◌≡◌, ◌++◌, ◌∷◌, [], refl, sym, ap, ◌∙◌, length, map, rules, arith, ℕ, ◌+◌, length-append}
+use Rattle.std.proofs.lemmas.List.{map-append, length-map}
+use denote.Param.Weighed.{at_most}
+use Rattle.type_trees.proofs.types.Member.TheLaws as member_laws
+use Rattle.xt_shapes.specs.declared.leaves.Ext.TheVariants.{Final, Appendable, Mutable}
+use Rattle.xt_shapes.specs.Shape.{product}
+use Rattle.type_trees.specs.Bridge.{type_shape, members_shape, member_head}
+use Rattle.packed_values.specs.View.{packed_val, packed_slot}
+use Rattle.packed_values.proofs.Views.{packed_absent, packed_present, packed_struct, packed_numbers, packed_list}
+use Rattle.packed_reader.specs.Spots.{spot_of}
+use Rattle.packed_reader.proofs.Steps.{empty_is}
+use Rattle.packed_reader.proofs.Taken.{none_taken}
+use Rattle.packed_reader.proofs.ListSteps.{items_first, item_next, items_end, is_prim, no_prim, sequence_is, array_is, counted_is, sequence_in, sequence_of, array_in, array_of}
+use Rattle.packed_reader.proofs.MemberSteps.{sound_here, sound_more, slot_here, slot_present, slot_absent, members_first, one_more_taken, one_more_left, members_end}
+use Rattle.packed_reader.proofs.PieceSteps.{pieces_first, piece_taken, piece_left, pieces_end}
+use Rattle.packed_reader.proofs.KindSteps.{struct_is, final_is, appendable_in, appendable_of, mutable_of}
+use Rattle.packed_reader.proofs.reading.+reading.Goals as goal
+
+-- ---- sequences and arrays
+
+pub read_items-loop-turn-init : goal.read_items-loop-turn-init
+read_items-loop-turn-init t c = rw (c.reserve.ensures ∙ c.new-values.ensures) (record { many = refl; left = items_first c.args.rep c.args.order (type_shape c.args.ty.now) c.args.count (spot_of c.args.ahead) })
+
+pub read_items-loop-turn-preserved : goal.read_items-loop-turn-preserved
+read_items-loop-turn-preserved t c =
+    let vs = map packed_val c.loop-turn.values in
+    let v = packed_val c.in_ok-value.value in
+    let more : map packed_val c.push.new.self ≡ vs ++ v ∷ [] = ap (λ xs. map packed_val xs) c.in-Ok-push.ensures.ok ∙ map-append packed_val c.loop-turn.values (c.in_ok-value.value ∷ []) in
+    record {
+      many = ap (λ xs. length xs) c.in-Ok-push.ensures.ok ∙ length-append c.loop-turn.values (c.in_ok-value.value ∷ []) ∙ ap (λ (n : ℕ). n + 1) c.loop-turn.invariant.many;
+      left = rw more (sym (item_next c.args.rep c.args.order (type_shape c.args.ty.now) c.args.count c.loop-turn._turn vs v (spot_of c.loop-turn.left) (spot_of c.in_ok-value.behind) c.loop-turn-test.true c.in_ok-value.ensures) ∙ c.loop-turn.invariant.left);
+    }
+
+pub read_items-returns : goal.read_items-returns
+read_items-returns t c =
+    let all : c.loop-turn._turn ≡ c.args.count = omega arith in
+    record {
+      many = c.loop-turn.invariant.many ∙ all;
+      value = sym c.loop-turn.invariant.left ∙ items_end c.args.rep c.args.order (type_shape c.args.ty.now) c.args.count c.loop-turn._turn (map packed_val c.loop-turn.values) (spot_of c.loop-turn.left) c.loop-turn-test.false;
+    }
+
+pub read_counted-returns : goal.read_counted-returns
+read_counted-returns t c =
+    let vs = c.in_ok-values.values in
+    counted_is c.args.rep c.args.order c.args.bound c.in_ok-count.count (type_shape c.args.ty.now) (map packed_val vs) (spot_of c.args.ahead) (spot_of c.in_ok-count.begin) (spot_of c.in_ok-values.behind) c.in_ok-count.ensures.value c.in_ok-values.ensures.value (length-map vs packed_val ∙ c.in_ok-values.ensures.many) (sym c.is_past.ensures ∙ c.if-is_past.false)
+
+pub read_list-returns-in_ok-values-in-Xcdr1 : goal.read_list-returns-in_ok-values-in-Xcdr1
+read_list-returns-in_ok-values-in-Xcdr1 t c =
+    let e = c.args.elem.now in
+    let x = c.in_ok-values-in-Xcdr1 in
+    rw (c.in-Xcdr1.is, packed_list x.values) (sequence_in c.args.order c.args.bound e.tc (type_shape e.ty) (map packed_val x.values) (spot_of c.args.ahead) (spot_of x.behind) x.ensures)
+
+pub read_list-returns-else-not-is_empty : goal.read_list-returns-else-not-is_empty
+read_list-returns-else-not-is_empty t c =
+    let e = c.args.elem.now in
+    let r = c.in_ok-inside-in-Xcdr2 in
+    let x = c.in_ok-values-in-Xcdr2 in
+    rw (c.in-Xcdr2.is, packed_list x.values) (sequence_of c.args.order c.args.bound e.tc (type_shape e.ty) (map packed_val x.values) (spot_of c.args.ahead) (spot_of r.inside) (spot_of r.after) (spot_of x.end) c.requires.inside r.ensures x.ensures (empty_is x.end.rest.now (sym c.is_empty.ensures ∙ c.if-not-is_empty.false)))
+
+pub read_sequence-read_list-requires : goal.read_sequence-read_list-requires
+read_sequence-read_list-requires t c =
+    let other = no_prim (type_shape c.args.elem.now.ty) (sym c.in_default.is ∙ c.as_prim.ensures) in
+    search rules
+
+pub read_sequence-returns : goal.read_sequence-returns
+read_sequence-returns t c =
+    let e = c.args.elem.now in
+    let p = c.in-Some.prim in
+    let x = c.in_ok-numbers.numbers in
+    rw (packed_numbers x) (sequence_is c.args.rep c.args.order c.args.bound c.in_ok-count.count e.tc (type_shape e.ty) p x (spot_of c.args.ahead) (spot_of c.in_ok-count.begin) (spot_of c.in_ok-numbers.behind) (is_prim (type_shape e.ty) p c.in-Some.ensures) c.in_ok-count.ensures.value c.in_ok-numbers.ensures.value c.in_ok-numbers.ensures.many (sym c.is_past.ensures ∙ c.if-is_past.false))
+
+pub read_table-returns-in_ok-values-in-Xcdr1 : goal.read_table-returns-in_ok-values-in-Xcdr1
+read_table-returns-in_ok-values-in-Xcdr1 t c =
+    let e = c.args.elem.now in
+    let x = c.in_ok-values-in-Xcdr1 in
+    λ dims count. rw (c.in-Xcdr1.is, packed_list x.values) (array_in c.args.order dims c.args.count e.tc (type_shape e.ty) (map packed_val x.values) (spot_of c.args.ahead) (spot_of x.behind) count x.ensures.value)
+
+pub read_table-returns-else-not-is_empty : goal.read_table-returns-else-not-is_empty
+read_table-returns-else-not-is_empty t c =
+    let e = c.args.elem.now in
+    let r = c.in_ok-inside-in-Xcdr2 in
+    let x = c.in_ok-values-in-Xcdr2 in
+    λ dims count. rw (c.in-Xcdr2.is, packed_list x.values) (array_of c.args.order dims c.args.count e.tc (type_shape e.ty) (map packed_val x.values) (spot_of c.args.ahead) (spot_of r.inside) (spot_of r.after) (spot_of x.end) c.requires.inside count r.ensures x.ensures.value (empty_is x.end.rest.now (sym c.is_empty.ensures ∙ c.if-not-is_empty.false)))
+
+pub read_array-read_table-requires : goal.read_array-read_table-requires
+read_array-read_table-requires t c =
+    let other = no_prim (type_shape c.args.elem.now.ty) (sym c.in_default.is ∙ c.as_prim.ensures) in
+    search rules
+
+pub read_array-returns-in_default : goal.read_array-returns-in_default
+read_array-returns-in_default t c =
+    let count : product c.args.dims.now ≡ c.elements_of-count.result = omega arith in
+    c.in_ok-value.ensures c.args.dims.now count
+
+pub read_array-returns : goal.read_array-returns
+read_array-returns t c =
+    let e = c.args.elem.now in
+    let p = c.in-Some.prim in
+    let x = c.in_ok-numbers.numbers in
+    let count : product c.args.dims.now ≡ c.elements_of-count.result = omega arith in
+    rw (packed_numbers x) (array_is c.args.rep c.args.order c.args.dims.now c.elements_of-count.result e.tc (type_shape e.ty) p x (spot_of c.args.ahead) (spot_of c.in_ok-numbers.behind) (is_prim (type_shape e.ty) p c.in-Some.ensures) count c.in_ok-numbers.ensures.value)
+
+-- ---- a member in declared order
+
+pub read_slot-returns-then-not-member : goal.read_slot-returns-then-not-member
+read_slot-returns-then-not-member t c =
+    let m = c.args.member.now in
+    rw (packed_present c.in_ok-value.value) (slot_here c.args.rep c.args.order (member_head m) (type_shape m.ty) (packed_val c.in_ok-value.value) (spot_of c.args.ahead) (spot_of c.in_ok-value.behind) c.if-not-member.true c.in_ok-value.ensures)
+
+pub read_slot-returns-then-not-is_there : goal.read_slot-returns-then-not-is_there
+read_slot-returns-then-not-is_there t c =
+    let m = c.args.member.now in
+    rw (c.in-Xcdr2.is, packed_absent) (slot_absent c.args.order (member_head m) (type_shape m.ty) c.in_ok-is_there.is_there (spot_of c.args.ahead) (spot_of c.in_ok-is_there.inside) c.if-not-member.false c.if-not-is_there.true c.in_ok-is_there.ensures)
+
+pub read_slot-returns : goal.read_slot-returns
+read_slot-returns t c =
+    let m = c.args.member.now in
+    rw (c.in-Xcdr2.is, packed_present c.in_ok-value-2.value) (slot_present c.args.order (member_head m) (type_shape m.ty) (packed_val c.in_ok-value-2.value) c.in_ok-is_there.is_there (spot_of c.args.ahead) (spot_of c.in_ok-is_there.inside) (spot_of c.in_ok-value-2.behind) c.if-not-member.false c.if-not-is_there.false c.in_ok-is_there.ensures c.in_ok-value-2.ensures)
+
+-- ---- the members in declared order
+
+pub read_members-loop-member-init : goal.read_members-loop-member-init
+read_members-loop-member-init t c =
+    let none = c.reserve.ensures ∙ c.new-slots.ensures in
+    rw none (record {
+      taken = none_taken (members_shape c.args.members.now) c.requires.apart;
+      left = members_first c.args.rep c.args.order c.args.cut (members_shape c.args.members.now) (spot_of c.args.ahead);
+      sound = c.requires.sound;
+    })
+
+pub read_members-read_slot-requires : goal.read_members-read_slot-requires
+read_members-read_slot-requires t c =
+    let fine = sound_here c.args.members.now c.loop-member.member-index c.member-item.result c.loop-member.invariant.sound c.loop-member-test.true c.member-item.is in
+    let smaller = rw (← c.member-item.is) at (at_most member_laws.the_size c.args.members.now c.loop-member.member-index c.member-item.result c.loop-member-test.true) in
+    search rules
+
+pub read_members-loop-member-preserved : goal.read_members-loop-member-preserved
+read_members-loop-member-preserved t c =
+    let ms = c.args.members.now in
+    let i = c.loop-member.member-index in
+    let m = c.member-item.result in
+    let ss = map packed_slot c.loop-member.slots in
+    let b = packed_slot c.in_ok-slot.slot in
+    let more : map packed_slot c.push.new.self ≡ ss ++ b ∷ [] = ap (λ xs. map packed_slot xs) c.in-Ok-push.ensures.ok ∙ map-append packed_slot c.loop-member.slots (c.in_ok-slot.slot ∷ []) in
+    rw more (record {
+      taken = one_more_taken ms i m ss b c.args.rep c.args.order (spot_of c.loop-member.left) (spot_of c.in_ok-slot.behind) c.loop-member-test.true c.member-item.is c.loop-member.invariant.taken c.in_ok-slot.ensures;
+      left = sym (one_more_left ms i m ss b c.args.rep c.args.order c.args.cut (spot_of c.loop-member.left) (spot_of c.in_ok-slot.behind) c.loop-member-test.true c.member-item.is c.loop-member.invariant.taken (sym c.is_ended.ensures ∙ c.if-is_ended.false) c.in_ok-slot.ensures) ∙ c.loop-member.invariant.left;
+      sound = sound_more ms i m c.loop-member.invariant.sound c.loop-member-test.true c.member-item.is;
+    })
+
+pub read_members-returns : goal.read_members-returns
+read_members-returns t c =
+    rw (packed_struct c.loop-member.slots) (sym c.loop-member.invariant.left ∙ members_end c.args.members.now c.loop-member.member-index (map packed_slot c.loop-member.slots) c.args.rep c.args.order c.args.cut (spot_of c.loop-member.left) c.loop-member-test.false c.requires.apart c.loop-member.invariant.taken)
+
+-- ---- the members of a MUTABLE structure
+
+pub read_piece-returns-then-member : goal.read_piece-returns-then-member
+read_piece-returns-then-member t c = rw packed_absent (c.if-member.true, refl)
+
+pub read_piece-returns : goal.read_piece-returns
+read_piece-returns t c =
+    let v = c.in_ok-value in
+    rw (packed_present v.value) (record {
+      content = spot_of c.in-Some.content;
+      end = spot_of v.end;
+      piece = c.in-Some.ensures;
+      value = v.ensures;
+      filled = empty_is v.end.rest.now (sym c.is_empty.ensures ∙ c.if-not-is_empty.false);
+    })
+
+pub read_pieces-loop-member-init : goal.read_pieces-loop-member-init
+read_pieces-loop-member-init t c =
+    let none = c.reserve.ensures ∙ c.new-slots.ensures in
+    rw none (record {
+      taken = none_taken (members_shape c.args.members.now) c.requires.apart;
+      left = pieces_first c.args.order (members_shape c.args.members.now) (spot_of c.args.ahead);
+      sound = c.requires.sound;
+    })
+
+pub read_pieces-read_piece-requires : goal.read_pieces-read_piece-requires
+read_pieces-read_piece-requires t c =
+    let fine = sound_here c.args.members.now c.loop-member.member-index c.member-item.result c.loop-member.invariant.sound c.loop-member-test.true c.member-item.is in
+    let smaller = rw (← c.member-item.is) at (at_most member_laws.the_size c.args.members.now c.loop-member.member-index c.member-item.result c.loop-member-test.true) in
+    search rules
+
+pub read_pieces-loop-member-preserved : goal.read_pieces-loop-member-preserved
+read_pieces-loop-member-preserved t c =
+    let ms = c.args.members.now in
+    let i = c.loop-member.member-index in
+    let m = c.member-item.result in
+    let ss = map packed_slot c.loop-member.slots in
+    let b = packed_slot c.in_ok-slot.slot in
+    let more : map packed_slot c.push.new.self ≡ ss ++ b ∷ [] = ap (λ xs. map packed_slot xs) c.in-Ok-push.ensures.ok ∙ map-append packed_slot c.loop-member.slots (c.in_ok-slot.slot ∷ []) in
+    rw more (record {
+      taken = piece_taken ms i m ss b c.args.order (spot_of c.loop-member.left) (spot_of c.in_ok-slot.behind) c.loop-member-test.true c.member-item.is c.loop-member.invariant.taken c.in_ok-slot.ensures;
+      left = piece_left ms i m ss b c.args.order _ (spot_of c.loop-member.left) (spot_of c.in_ok-slot.behind) c.loop-member-test.true c.member-item.is c.loop-member.invariant.taken c.loop-member.invariant.left c.in_ok-slot.ensures;
+      sound = sound_more ms i m c.loop-member.invariant.sound c.loop-member-test.true c.member-item.is;
+    })
+
+pub read_pieces-returns : goal.read_pieces-returns
+read_pieces-returns t c =
+    let left = c.loop-member.left in
+    rw (packed_struct c.loop-member.slots) (pieces_end c.args.members.now c.loop-member.member-index (map packed_slot c.loop-member.slots) c.args.order (spot_of c.args.ahead) (spot_of left) c.loop-member-test.false c.requires.apart c.loop-member.invariant.taken c.loop-member.invariant.left (empty_is left.rest.now (sym c.is_empty.ensures ∙ c.if-not-is_empty.false)))
+
+-- ---- structures by their extensibility
+
+pub read_appendable-returns-in_ok-value-in-Xcdr1 : goal.read_appendable-returns-in_ok-value-in-Xcdr1
+read_appendable-returns-in_ok-value-in-Xcdr1 t c =
+    let v = c.in_ok-value-in-Xcdr1 in
+    rw c.in-Xcdr1.is (appendable_in (members_shape c.args.members.now) c.args.order (packed_val v.value) (spot_of c.args.ahead) (spot_of v.behind) v.ensures)
+
+pub read_appendable-returns-in_ok-value-in-Xcdr2 : goal.read_appendable-returns-in_ok-value-in-Xcdr2
+read_appendable-returns-in_ok-value-in-Xcdr2 t c =
+    let r = c.in_ok-inside-in-Xcdr2 in
+    let v = c.in_ok-value-in-Xcdr2 in
+    rw c.in-Xcdr2.is (appendable_of (members_shape c.args.members.now) c.args.order (packed_val v.value) (spot_of c.args.ahead) (spot_of r.inside) (spot_of r.after) (spot_of v.field-0-1) r.ensures v.ensures)
+
+pub read_mutable-returns-in_ok-value-in-Xcdr2 : goal.read_mutable-returns-in_ok-value-in-Xcdr2
+read_mutable-returns-in_ok-value-in-Xcdr2 t c =
+    let r = c.in_ok-inside-in-Xcdr2 in
+    let v = c.in_ok-value-in-Xcdr2 in
+    rw c.in-Xcdr2.is (mutable_of (members_shape c.args.members.now) c.args.order (packed_val v.value) (spot_of c.args.ahead) (spot_of r.inside) (spot_of r.after) r.ensures v.ensures)
+
+pub read_structure-returns-in_ok-value-in-Final : goal.read_structure-returns-in_ok-value-in-Final
+read_structure-returns-in_ok-value-in-Final t c =
+    let v = c.in_ok-value-in-Final in
+    let ms = c.as_slice-members.result.now in
+    struct_is c.args.rep c.args.kind.now Final ms c.args.order (packed_val v.value) (spot_of c.args.ahead) (spot_of v.behind) c.in-Final.is (sym c.as_slice-members.ensures) (final_is c.args.rep (members_shape ms) c.args.order (packed_val v.value) (spot_of c.args.ahead) (spot_of v.behind) v.ensures)
+
+pub read_structure-returns-in_ok-value-in-Appendable : goal.read_structure-returns-in_ok-value-in-Appendable
+read_structure-returns-in_ok-value-in-Appendable t c =
+    let v = c.in_ok-value-in-Appendable in
+    struct_is c.args.rep c.args.kind.now Appendable c.as_slice-members.result.now c.args.order (packed_val v.value) (spot_of c.args.ahead) (spot_of v.behind) c.in-Appendable.is (sym c.as_slice-members.ensures) v.ensures
+
+pub read_structure-returns-in_ok-value-in-Mutable : goal.read_structure-returns-in_ok-value-in-Mutable
+read_structure-returns-in_ok-value-in-Mutable t c =
+    let v = c.in_ok-value-in-Mutable in
+    struct_is c.args.rep c.args.kind.now Mutable c.as_slice-members.result.now c.args.order (packed_val v.value) (spot_of c.args.ahead) (spot_of v.behind) c.in-Mutable.is (sym c.as_slice-members.ensures) v.ensures

@@ -1,0 +1,5 @@
+pub mod Spots
+pub mod Reads
+pub mod Pieces
+pub mod Bodies
+pub mod Plain
