@@ -1,5 +1,5 @@
 -- What the grammar reads from, and the steps that every rule is made of (this profile's own).
-use Rattle.std.specs.Prelude.{◌≡◌, ◌≢◌, ℕ, zero, suc, ◌+◌, ◌-◌, Bool, true, false, not, ◌&&◌, ◌||◌, if◌then◌else◌, List, [], ◌∷◌, ◌++◌, length, take, drop, Option, Some, None, Result, Ok, Err, is_some, refl, codes}
+use Rattle.std.specs.Prelude.{◌≡◌, ◌≢◌, ℕ, zero, suc, ◌-◌, Bool, not, ◌&&◌, if◌then◌else◌, List, [], ◌∷◌, ◌++◌, length, Option, Some, None, Result, Ok, Err, refl, codes}
 use Rattle.std.specs.Coded.{Coded, code_by, coded×, coded_ℕ, coded_list}
 use Rattle.idl_tokens.specs.declared.tokens.TokenKind.{TokenKind}
 use Rattle.xt_annotations.specs.declared.notes.Note.{Note}
@@ -11,7 +11,7 @@ use Rattle.idl_tokens.specs.Classes.{Text}
 use Rattle.idl_tokens.specs.Numerals.{unsigned_in}
 use Rattle.xt_annotations.specs.Notes.{note_after}
 use Rattle.idl_tokens.specs.Tokens as tokens
-use Rattle.xt_annotations.specs.Places.{breaks, first_refused}
+use Rattle.xt_annotations.specs.Places.{breaks}
 use Rattle.idl_input.specs.declared.faults.IdlFault.{IdlFault}
 use Rattle.idl_input.specs.declared.faults.IdlFault.TheVariants as fault
 use Rattle.idl_input.specs.Words.{keyword, is_keyword}

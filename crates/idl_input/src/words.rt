@@ -92,7 +92,7 @@ impl Begins {
     }
 }
 
-pub const KEYWORDS: [(&'static [u8], Keyword); 38] = [
+const KEYWORDS: [(&'static [u8], Keyword); 38] = [
     (b"module", Keyword::Module),
     (b"struct", Keyword::Struct),
     (b"union", Keyword::Union),

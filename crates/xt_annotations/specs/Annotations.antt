@@ -1,17 +1,51 @@
 -- The annotations that are known, and what each means without a parameter (DDS-XTypes 1.3, 7.3.1.2).
-use Rattle.std.specs.Prelude.{Bool, true, false, if◌then◌else◌, List, [], ◌∷◌, map, Option, Some, None}
+use Rattle.std.specs.Prelude.{Bool, true, false, List, [], ◌∷◌, Option, Some, None, codes}
 use Rattle.xt_shapes.specs.declared.leaves.Ext.{Ext}
 use Rattle.xt_shapes.specs.declared.leaves.Try.{Try}
 use Rattle.idl_tokens.specs.Classes.{Text}
 use Rattle.idl_tokens.specs.Tables.{beside}
 use Rattle.xt_annotations.specs.declared.annotations.Annotation.{Annotation}
 use Rattle.xt_annotations.specs.declared.annotations.ParameterKind.{ParameterKind}
-use Rattle.xt_annotations.specs.declared.annotations.TheConstants.{ANNOTATIONS}
 use Rattle.xt_annotations.specs.declared.notes.Note.{Note}
 use Rattle.xt_annotations.specs.declared.notes.Note.TheVariants as note
 
+-- each annotation by its name; the last are not in the profile (DDS-XTypes 1.3, 7.3.1.2; OMG IDL 4.2, 8.3)
+abbrev pub annotations : List (Text × Annotation)
+annotations =
+    (codes "final", Annotation.Final) ∷
+    (codes "appendable", Annotation.Appendable) ∷
+    (codes "mutable", Annotation.Mutable) ∷
+    (codes "extensibility", Annotation.Extensibility) ∷
+    (codes "nested", Annotation.Nested) ∷
+    (codes "topic", Annotation.Topic) ∷
+    (codes "autoid", Annotation.Autoid) ∷
+    (codes "id", Annotation.Id) ∷
+    (codes "hashid", Annotation.HashId) ∷
+    (codes "key", Annotation.Key) ∷
+    (codes "optional", Annotation.Optional) ∷
+    (codes "must_understand", Annotation.MustUnderstand) ∷
+    (codes "try_construct", Annotation.TryConstruct) ∷
+    (codes "bit_bound", Annotation.BitBound) ∷
+    (codes "value", Annotation.Value) ∷
+    (codes "default_literal", Annotation.DefaultLiteral) ∷
+    (codes "position", Annotation.Position) ∷
+    (codes "external", Annotation.Outside) ∷
+    (codes "default", Annotation.Outside) ∷
+    (codes "verbatim", Annotation.Outside) ∷
+    (codes "unit", Annotation.Outside) ∷
+    (codes "range", Annotation.Outside) ∷
+    (codes "min", Annotation.Outside) ∷
+    (codes "max", Annotation.Outside) ∷
+    (codes "service", Annotation.Outside) ∷
+    (codes "oneway", Annotation.Outside) ∷
+    (codes "ami", Annotation.Outside) ∷
+    (codes "data_representation", Annotation.Outside) ∷
+    (codes "ignore_literal_names", Annotation.Outside) ∷
+    (codes "non_serialized", Annotation.Outside) ∷
+    []
+
 unfoldable pub annotation : Text → Option Annotation
-annotation = beside (map (λ entry. (entry.0.now, entry.1)) ANNOTATIONS)
+annotation = beside annotations
 
 -- the kind of an annotation's parameter
 abbrev pub takes : Annotation → ParameterKind
