@@ -1,7 +1,9 @@
 ghost use Rattle.std.specs.Prelude.{◌≡◌, [], ◌∷◌, ◌++◌, IfOk, OnOk, OnErr};
 ghost use Rattle.cell_core.specs.Cells.{cells, reply_to, shown, IsInRange, Stays, FoundStays};
+ghost use Rattle.cell_core.specs.Theorem.{CoreLaws};
 
 use crate::event::{Event, Reply};
+use crate::theorem::finds_agree;
 use std::alloc::Global;
 use std::marker::Model;
 use xt_lists::OutOfMemory;
@@ -40,7 +42,10 @@ impl Machine {
         ensures refused { OnErr result (self.new ≡ self.old) }
         ensures full_cells_stay { Stays (cells self.old) (cells self.new) }
         ensures found_stays { FoundStays (cells self.old) (cells self.new) }
+        // Over every list of lawful events an identifier stands in at most one cell, and finds of one identifier agree.
+        ensures laws { CoreLaws }
     {
+        finds_agree();
         let reply = answer(self.events.as_slice(), event);
         self.events.push(*event)?;
         Ok(reply)

@@ -59,13 +59,13 @@ put_clash name old new octets f is id other there = record {
   old = λ o e. ((λ z. absurd (omega arith)), λ z. absurd (omega arith));
 }
 
-pub put_full : (name : List ℕ → List ℕ) (old new : PassView) (octets : List ℕ) → IsObject octets → known old (named_by name octets) ≡ None → LearnsFull old new (named_by name octets) → IsOutcome name (known old) new octets 4
-put_full name old new octets is none learns = record {
+pub put_full : (name : List ℕ → List ℕ) (old new : PassView) (octets : List ℕ) (held : List Held) → IsObject octets → known old (named_by name octets) ≡ None → LearnsFull old new (named_by name octets) held → IsOutcome name (known old) new octets 4
+put_full name old new octets held is none learns = record {
   range = omega arith;
   none = ((λ e. absurd (omega arith)), λ no. absurd (no is));
   kept = λ e. absurd (omega arith);
   clash = λ e. absurd (omega arith);
-  full = λ e. learns.full_now;
+  full = λ e. (held, learns.full_now);
   old = λ o e. absurd (some_not_none (known old (named_by name octets)) o none e);
 }
 

@@ -1,11 +1,12 @@
 //! The push of objects over a link.
 ghost use Rattle.std.specs.Prelude.{◌≡◌, ◌≤◌, ◌<◌, ◌+◌, ◌^◌, length, drop, IfOk};
 ghost use Rattle.std.specs.List.{All};
+ghost use Rattle.type_mirror.specs.told.Laws.{TellsInOrder, TellsLast, GivesAll, MakesEven};
 ghost use Rattle.type_mirror.specs.told.Pushes.{IsOwn, MayPush, PushesOver, HasPushCause};
 ghost use Rattle.type_mirror.specs.Steps.{telling, GoesOver};
 
 use crate::rounds::{put, tell};
-use crate::told::{PushFault, Told};
+use crate::told::{PushFault, Told, pushes_tell};
 use std::alloc::Global;
 use type_lookup::messages::Fetched;
 use type_registry::Naming;
@@ -31,7 +32,15 @@ pub fn push<N: Naming, L: Link>(
     ensures pushes { PushesOver N.name objects.now (L.got link.old) (L.got link.new) (L.left link.old) (L.left link.new) (L.taken link.old) (L.taken link.new) result }
     ensures cause { HasPushCause (L.faults link.old) (L.faults link.new) result }
     ensures same { L.name link.new ≡ L.name link.old }
+    // What the rounds tell has one entry an object, in order.
+    ensures order { TellsInOrder }
+    // Where the replies are those of one session, it holds of the session's last state.
+    ensures session { TellsLast }
+    // With neither a clash nor a want of room the peer knows every object; and after a push in each direction both sides know all.
+    ensures good { GivesAll }
+    ensures both { MakesEven }
 {
+    pushes_tell();
     let mut told = Row::new(alloc);
     let mut tag = 1;
     let mut rest = objects.as_slice();

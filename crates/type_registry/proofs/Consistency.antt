@@ -101,5 +101,25 @@ full_is name w p l = record {
   strangers = λ i x g. stranger_at name w.registry w.id w.cells i x p.strange g;
 }
 
+pub same_lists : {X : Type 0} (xs ys : List X) → length xs ≡ length ys → ((i : ℕ) (x y : X) → slice_get xs i ≡ Some x → slice_get ys i ≡ Some y → x ≡ y) → xs ≡ ys
+same_lists [] [] e s = refl
+same_lists [] (y ∷ ys) e s = absurd (omega arith)
+same_lists (x ∷ xs) [] e s = absurd (omega arith)
+same_lists (x ∷ xs) (y ∷ ys) e s = let n : length xs ≡ length ys = omega arith in let first : x ≡ y = s 0 x y refl refl in let rest : xs ≡ ys = same_lists xs ys n (λ k. s (suc k)) in λ i. first i ∷ rest i
+
+-- two paths of one identifier past 64 strangers met the same
+pub same_trails : (name : List ℕ → List ℕ) (v w : Walk) → IsPath name v → IsPath name w → 64 ≤ v.count → 64 ≤ w.count → AgreeOn v.levels w.levels → AgreeOn v.cells w.cells → v.registry ≡ w.registry → v.id ≡ w.id → map held_of v.cells ≡ map held_of w.cells
+same_trails name v w p q l m al ac registry id =
+    let n : length (map held_of v.cells) ≡ length v.cells = length-map v.cells held_of in
+    let o : length (map held_of w.cells) ≡ length w.cells = length-map w.cells held_of in
+    let same : length (map held_of v.cells) ≡ length (map held_of w.cells) = omega (arith, n, o, p.counted, p.few, q.counted, q.few, l, m) in
+    same_lists (map held_of v.cells) (map held_of w.cells) same (λ i x y g h. let k : i ≡ 0 + i = omega arith in
+    one_said name v.registry w.registry v.id w.id v.levels w.levels v.cells w.cells i i x y registry al ac (ap (λ j. place j i) id)
+    (walked_at name v.registry v.id 0 v.levels v.cells i i x k p.walked g) (walked_at name w.registry w.id 0 w.levels w.cells i i y k q.walked h))
+
+-- the same of what callers see of them
+pub trails_views : (a b a' b' : Occupied) → a ≡ a' → b ≡ b' → (a.registry ≡ b.registry → a.id ≡ b.id → a.held ≡ b.held) → a'.registry ≡ b'.registry → a'.id ≡ b'.id → a'.held ≡ b'.held
+trails_views a b a' b' e f = let P : Occupied → Occupied → Type 0 = λ u v. u.registry ≡ v.registry → u.id ≡ v.id → u.held ≡ v.held in λ s. subst (λ (u : Occupied). P u b') e (subst (λ (u : Occupied). P a u) f s)
+
 pub settled_full : (name : List ℕ → List ℕ) (w : Walk) (t : Occupied) (registry : List ℕ) (id : HashId) → IsPath name w → 64 ≤ w.count → t ≡ occupied_of w → w.registry ≡ registry → w.id ≡ id → (t.registry ≡ registry) × (t.id ≡ id) × IsFull name t
 settled_full name w t registry id p l e h i = (ap (λ u. u.registry) e ∙ h, ap (λ u. u.id) e ∙ i, subst (IsFull name) (sym e) (full_is name w p l))

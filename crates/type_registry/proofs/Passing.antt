@@ -2,9 +2,7 @@
 use Rattle.std.proofs.Common.{◌≡◌, ◌≢◌, ℕ, List, [], ◌∷◌, ◌++◌, true, false, cond, Bool, Option, inl, inr, refl, sym, ap, subst, ◌∙◌}
 use Rattle.std.specs.Prelude.{None, Some, All}
 use Rattle.std.specs.Map.{lookup}
-use Rattle.std.specs.Option.{option_map, option_copied, is_some}
-use Rattle.std.specs.Borrow.{Bor}
-use mathlib.Core.Bool.{true≢false}
+use Rattle.std.specs.Option.{option_map}
 use Rattle.std.proofs.lemmas.List.Elements.{All-head, All-tail, All-push}
 use Rattle.type_trees.specs.declared.types.HashId.{HashId}
 use Rattle.type_trees.specs.Ids.{same_id}
@@ -124,12 +122,12 @@ some_full id es fs x h = by (lookup (same_id id) es) refl h
     by (Some o) e k = ap (option_map held_in) (at_more id es fs o e) ∙ k
 
 -- the pass had a trail already
-pub learns_no_trail : (p : PassView) (id : HashId) (o : Occupied) → lookup (same_id id) p.full ≡ Some o → LearnsFull p p id
-learns_no_trail p id o e = record { full_now = (o.held, ap (option_map held_in) e); others = λ j n. refl; grows = keeps_all p; same_found = refl }
+pub learns_no_trail : (p : PassView) (id : HashId) (o : Occupied) → lookup (same_id id) p.full ≡ Some o → LearnsFull p p id o.held
+learns_no_trail p id o e = record { full_now = ap (option_map held_in) e; others = λ j n. refl; grows = keeps_all p; same_found = refl }
 
-pub learns_trail : (p : PassView) (id : HashId) (o : Occupied) → lookup (same_id id) p.full ≡ None → LearnsFull p (with_full p id o) id
+pub learns_trail : (p : PassView) (id : HashId) (o : Occupied) → lookup (same_id id) p.full ≡ None → LearnsFull p (with_full p id o) id o.held
 learns_trail p id o e = record {
-  full_now = (o.held, ap (option_map held_in) (at_last id p.full o e));
+  full_now = ap (option_map held_in) (at_last id p.full o e);
   others = λ j n. ap (option_map held_in) (at_other j p.full id o n);
   grows = record { registry = refl; known = λ j x k. k; fulls = λ j x k. some_full j p.full ((id, o) ∷ []) x k };
   same_found = refl;
@@ -138,23 +136,21 @@ learns_trail p id o e = record {
 pub pass_fuller : (name : List ℕ → List ℕ) (p : PassView) (id : HashId) (o : Occupied) → IsPass name p → o.registry ≡ p.registry → o.id ≡ id → IsFull name o → IsPass name (with_full p id o)
 pass_fuller name p id o is e i s = record { findings = is.findings; trails = All-push (IsFullOf name p.registry) p.full (id, o) is.trails (record { registry_is = e; id_is = i; is_full = s }) }
 
--- a trail was there, or there was none
-pub some_is : {X : Type 0} (o : Option (Bor X)) (l : Option X) → option_copied o ≡ l → is_some o ≡ true → (x : X) × (l ≡ Some x)
-some_is None l e s = absurd (true≢false (sym s))
-some_is (Some r) l e s = (r.now, sym e)
+-- what the pass has is of that identifier in its registry, so it is the trail that was answered
+pub no_trail_at : (name : List ℕ → List ℕ) (p q : PassView) (id : HashId) (o s t : Occupied) → p ≡ q → IsPass name p → Some o ≡ lookup (same_id id) p.full → s ≡ t → id ≡ s.id → t.registry ≡ q.registry → (o.registry ≡ s.registry → o.id ≡ s.id → o.held ≡ s.held) → LearnsFull q q t.id t.held
+no_trail_at name p q id o s t same is got again id_is one agrees =
+    let e : IsFullOf name p.registry (id, o) = holds_at id (IsFullOf name p.registry) p.full o is.trails (sym got) in
+    let held : o.held ≡ s.held = agrees (e.registry_is ∙ ap (λ (v : PassView). v.registry) same ∙ sym one ∙ sym (ap (λ (u : Occupied). u.registry) again)) (e.id_is ∙ id_is) in
+    subst (λ (u : Occupied). LearnsFull q q u.id u.held) again
+    (subst (λ (j : HashId). LearnsFull q q j s.held) id_is
+    (subst (λ (hs : List Held). LearnsFull q q id hs) held
+    (subst (λ (v : PassView). LearnsFull v v id o.held) same (learns_no_trail p id o (sym got)))))
 
-pub none_is : {X : Type 0} (o : Option (Bor X)) (l : Option X) → option_copied o ≡ l → is_some o ≡ false → l ≡ None
-none_is None l e s = sym e
-none_is (Some r) l e s = absurd (true≢false s)
-
-pub no_trail_at : (p q : PassView) (id : HashId) (o : Occupied) (t : Option (Bor Occupied)) → p ≡ q → id ≡ o.id → option_copied t ≡ lookup (same_id id) p.full → is_some t ≡ true → LearnsFull q q o.id
-no_trail_at p q id o t s is got some = let x = some_is t (lookup (same_id id) p.full) got some in
-    subst (λ (j : HashId). LearnsFull q q j) is (subst (λ (v : PassView). LearnsFull v v id) s (learns_no_trail p id x.0 x.1))
-
-pub trail_put : (p q : PassView) (id : HashId) (o t : Occupied) (full : List (HashId × Occupied)) → p ≡ q → full ≡ p.full ++ (id, o) ∷ [] → id ≡ t.id → lookup (same_id id) p.full ≡ None → LearnsFull q (record { registry = p.registry; found = p.found; full = full }) t.id
-trail_put p q id o t full s put is none =
-    subst (λ (fs : List (HashId × Occupied)). LearnsFull q (record { registry = p.registry; found = p.found; full = fs }) t.id) (sym put)
-    (subst (λ (j : HashId). LearnsFull q (with_full p id o) j) is (subst (λ (v : PassView). LearnsFull v (with_full p id o) id) s (learns_trail p id o none)))
+pub trail_put : (p q : PassView) (id : HashId) (o t : Occupied) (full : List (HashId × Occupied)) → p ≡ q → full ≡ p.full ++ (id, o) ∷ [] → o ≡ t → id ≡ t.id → lookup (same_id id) p.full ≡ None → LearnsFull q (record { registry = p.registry; found = p.found; full = full }) t.id t.held
+trail_put p q id o t full s put again is none =
+    subst (λ (fs : List (HashId × Occupied)). LearnsFull q (record { registry = p.registry; found = p.found; full = fs }) t.id t.held) (sym put)
+    (subst (λ (u : Occupied). LearnsFull q (with_full p id o) t.id u.held) again
+    (subst (λ (j : HashId). LearnsFull q (with_full p id o) j o.held) is (subst (λ (v : PassView). LearnsFull v (with_full p id o) id o.held) s (learns_trail p id o none))))
 
 pub pass_full_at : (name : List ℕ → List ℕ) (p q : PassView) (id : HashId) (o t : Occupied) (full : List (HashId × Occupied)) → p ≡ q → full ≡ p.full ++ (id, o) ∷ [] → o ≡ t → id ≡ t.id → IsPass name p → t.registry ≡ q.registry → IsFull name o → IsPass name (record { registry = p.registry; found = p.found; full = full })
 pass_full_at name p q id o t full s put same is whole one sound =

@@ -72,9 +72,9 @@ pub record Learns (old new : PassView) (id : HashId) (octets : List ℕ) : Type 
   pub grows : Grows old new
   pub same_fulls : new.full ≡ old.full
 
--- the pass has a trail for that identifier, and all else as before
-pub record LearnsFull (old new : PassView) (id : HashId) : Type 0 where
-  pub full_now : (held : List Held) × (fulls new id ≡ Some held)
+-- the pass has this trail for that identifier, and all else as before
+pub record LearnsFull (old new : PassView) (id : HashId) (held : List Held) : Type 0 where
+  pub full_now : fulls new id ≡ Some held
   pub others : (j : HashId) → j ≢ id → fulls new j ≡ fulls old j
   pub grows : Grows old new
   pub same_found : new.found ≡ old.found

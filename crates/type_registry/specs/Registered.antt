@@ -42,5 +42,5 @@ abbrev pub IsRefused : {N : Type 0} → (List ℕ → List ℕ) → List ℕ →
 IsRefused name registry octets old new (fault.NotAnObject f) = (object_of octets ≡ Err f) × (new ≡ old)
 IsRefused name registry octets old new (fault.Clash f) = IsObject octets × IsOf registry (named_by name octets) f × (f.octets ≢ octets) × (new ≡ old)
 IsRefused name registry octets old new (fault.Full t) =
-    IsObject octets × (t.registry ≡ registry) × (t.id ≡ named_by name octets) × IsFull name t × (known old (named_by name octets) ≡ None) × LearnsFull old new (named_by name octets)
+    IsObject octets × (t.registry ≡ registry) × (t.id ≡ named_by name octets) × IsFull name t × (known old (named_by name octets) ≡ None) × LearnsFull old new (named_by name octets) t.held
 IsRefused name registry octets old new fault.OutOfMemory = new ≡ old

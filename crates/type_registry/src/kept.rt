@@ -1,7 +1,7 @@
 use crate::finding::Finding;
 use crate::naming::Naming;
 use crate::trail::Trail;
-use type_object::Fault;
+use type_object::Fault as ObjectFault;
 
 /// An object that is in the registry, under its identifier.
 #[derive(Drop)]
@@ -16,7 +16,7 @@ pub enum Kept<'r, N: Naming> {
 #[derive(Drop)]
 pub enum RegisterFault<'r, N: Naming> {
     /// The octets are no object's text; this is their first fault.
-    NotAnObject(Fault),
+    NotAnObject(ObjectFault),
     /// Other octets stand under the identifier.
     Clash(Finding<'r, N>),
     /// All 64 probed cells of the identifier are full, each with another one.

@@ -24,3 +24,4 @@ pub use naming::{Md5Naming, Naming};
 pub use pass::Pass;
 pub use registry::Registry;
 pub use trail::{Seen, Trail};
+pub use type_object::Fault as ObjectFault;

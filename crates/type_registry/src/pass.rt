@@ -82,15 +82,17 @@ impl<'r, N: Naming> Pass<'r, N> {
     /// Adds that the probed cells of an identifier are full, if the pass doesn't know it yet.
     pub(crate) fn keep_trail(&mut self, trail: &Trail<'r, N>) -> Result<(), OutOfMemory>
         requires { trail.now.registry ≡ self.old.registry }
-        ensures ok { OnOk result (LearnsFull self.old self.new trail.now.id) }
+        ensures ok { OnOk result (LearnsFull self.old self.new trail.now.id trail.now.held) }
         ensures err { OnErr result (self.new ≡ self.old) }
         ensures pass { IsPass N.name self.new }
     {
         let strangers = trail.strangers();
         let id = strangers.id();
-        if self.full.get(&id).is_none() {
-            self.full.insert(id, strangers)?;
+        if let Some(known) = self.full.get(&id) {
+            known.agrees(&strangers);
+            return Ok(());
         }
+        self.full.insert(id, strangers)?;
         Ok(())
     }
 }

@@ -34,6 +34,14 @@ impl<'r, N: Naming> Strangers<'r, N> {
         let _path = self.path.count();
         self.path.id()
     }
+
+    /// Two trails of one identifier in one registry are the same, since full cells never change. It takes no memory.
+    pub(crate) fn agrees(&self, other: &Strangers<'r, N>)
+        ensures { self.now.registry ≡ other.now.registry → self.now.id ≡ other.now.id → self.now.held ≡ other.now.held }
+    {
+        self.path.levels().agrees(&other.path.levels());
+        self.path.cells().agrees(&other.path.cells());
+    }
 }
 
 /// What a cell of a trail holds: the text of an object under its identifier.

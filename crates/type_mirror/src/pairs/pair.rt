@@ -1,7 +1,9 @@
 ghost use Rattle.std.specs.Prelude.{◌≡◌, ◌∷◌, ◌++◌, [], IfOk, OnOk, OnErr};
 ghost use Rattle.std.specs.Option.{option_map};
 ghost use Rattle.type_mirror.specs.pairs.Pairs.{IsDistinct, object_at, taken, gave, after, answer};
+ghost use Rattle.type_mirror.specs.pairs.Laws.{KeepsObjects, ClashesDiffer, EndsAsUnion};
 
+use crate::pairs::laws::pairs_agree;
 use std::alloc::Global;
 use type_lookup::messages::Fetched;
 use type_trees::HashId;
@@ -56,7 +58,13 @@ impl Pair {
         ensures answer { IfOk result (λ gave. gave ≡ answer self.old give.now) }
         ensures state { OnOk result (self.new ≡ after self.old give.now) }
         ensures kept { OnErr result (self.new ≡ self.old) }
+        // Over every list of gives: no side loses or changes an object, and a clash is only of octets that differed at the start.
+        ensures keeps { KeepsObjects }
+        ensures clashes { ClashesDiffer }
+        // Without one, and with all given, both sides end as the union.
+        ensures union { EndsAsUnion }
     {
+        pairs_agree();
         let gave = match give.from {
             Side::A => hand(alloc, &self.a, &mut self.b, &give.id)?,
             Side::B => hand(alloc, &self.b, &mut self.a, &give.id)?,
