@@ -1,4 +1,5 @@
 pub mod OfKept
+pub mod OfLengths
 pub mod OfOctets
 pub mod Places
 pub mod Puts

@@ -101,7 +101,7 @@ items_next t n p = and_past (end_of t p) (items_end t n) (repeated_stays n (end_
 
 -- ---- each value takes an octet
 
-size_some : (p : Primitive) → 1 ≤ size p
+pub size_some : (p : Primitive) → 1 ≤ size p
 size_some Primitive.Boolean = omega arith
 size_some Primitive.Byte = omega arith
 size_some Primitive.Int8 = omega arith
@@ -116,7 +116,7 @@ size_some Primitive.Float32 = omega arith
 size_some Primitive.Float64 = omega arith
 size_some Primitive.Char8 = omega arith
 
-enum_some : (bits : ℕ) → 1 ≤ enum_size bits
+pub enum_some : (bits : ℕ) → 1 ≤ enum_size bits
 enum_some bits = by (nat_le bits 8) (nat_le bits 16)
   where
     by : (a b : Bool) → 1 ≤ cond a 1 (cond b 2 4)
@@ -124,7 +124,7 @@ enum_some bits = by (nat_le bits 8) (nat_le bits 16)
     by false true = omega arith
     by false false = omega arith
 
-mask_some : (bits : ℕ) → 1 ≤ mask_size bits
+pub mask_some : (bits : ℕ) → 1 ≤ mask_size bits
 mask_some bits = by (nat_le bits 8) (nat_le bits 16) (nat_le bits 32)
   where
     by : (a b c : Bool) → 1 ≤ cond a 1 (cond b 2 (cond c 4 8))
@@ -134,7 +134,7 @@ mask_some bits = by (nat_le bits 8) (nat_le bits 16) (nat_le bits 32)
     by false false false = omega arith
 
 -- a value of a leaf ends behind where it begins
-grows : (t : Shape) (p : ℕ) → is_leaf t ≡ true → IfSome (end_of t p) (λ q. p < q)
+pub grows : (t : Shape) (p : ℕ) → is_leaf t ≡ true → IfSome (end_of t p) (λ q. p < q)
 grows (prim k) p e = omega (arith, size_some k)
 grows (str bound) p e = by (bound == 0)
   where

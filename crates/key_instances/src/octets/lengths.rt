@@ -1,7 +1,9 @@
 //! The greatest length of keys.
-ghost use Rattle.std.specs.Prelude.{◌≡◌, ◌≤◌, Some, IsTrue, true};
+ghost use Rattle.std.specs.Prelude.{◌≡◌, ◌≤◌, length, Some, IsTrue, true, false};
 ghost use Rattle.xt_shapes.specs.Shape.{sequence, array};
 ghost use Rattle.xt_shapes.specs.Keyable.{is_leaf, keyable, counted_keyable};
+ghost use Rattle.xt_shapes.specs.Typing.{has_type};
+ghost use Rattle.xt_shapes.specs.Vals.{Val};
 ghost use Rattle.type_trees.specs.Bridge.{type_shape, members_shape};
 ghost use Rattle.type_trees.specs.Parts.{sequence_parts, array_parts};
 ghost use Rattle.projection_laws.specs.Premises.{IsValid};
@@ -10,7 +12,9 @@ ghost use Rattle.xcdr_model.specs.KeyOctets as spec;
 ghost use Rattle.xcdr_model.specs.Xcdr2Reading.{is_primitive};
 ghost use Rattle.xcdr_model.specs.Premises.{sound, sound_members, distinct_members};
 ghost use Rattle.key_instances.specs.octets.Ends.{past, items_end, behind_count, collection_end, ends};
+ghost use Rattle.key_instances.specs.octets.Laws.{HasLongKey};
 
+use crate::octets::laws::{others_have_long_keys, short_keys_fit};
 use crate::octets::order::{Counted, has_key, next_counted};
 use shape_laws::premises_hold;
 use type_rules::shape_keeps_rules;
@@ -171,8 +175,8 @@ fn end_of_counted(keyed: bool, members: &[Member], place: u64) -> u64
     end
 }
 
-/// Whether the key octets of each value of the type are at most 16 (DDS-XTypes 1.3, 7.6.8). It takes no memory.
-pub fn short_key(ty: &XType) -> bool
+/// Whether the longest key of the type ends within a hash.
+fn ends_within_hash(ty: &XType) -> bool
     requires valid { IsValid ty.now }
     ensures { result ≡ spec.short (type_shape ty.now) }
 {
@@ -185,4 +189,18 @@ pub fn short_key(ty: &XType) -> bool
         Some(kind) if kind.disc_key => end_of_leaf(&kind.disc, 0) < PAST,
         _ => true,
     }
+}
+
+/// Whether the key octets of each value of the type are at most 16 (DDS-XTypes 1.3, 7.6.8): where they are not, a value has more. It takes
+/// no memory.
+pub fn short_key(ty: &XType) -> bool
+    requires valid { IsValid ty.now }
+    ensures defined { result ≡ spec.short (type_shape ty.now) }
+    ensures fit { result ≡ true → (v : Val) → IsTrue (has_type (type_shape ty.now) v) → length (spec.key_octets (type_shape ty.now) v) ≤ 16 }
+    ensures longer { result ≡ false → HasLongKey (type_shape ty.now) }
+{
+    shape_keeps_rules();
+    short_keys_fit();
+    others_have_long_keys();
+    ends_within_hash(ty)
 }

@@ -3,7 +3,7 @@ use Rattle.type_trees.specs.Bridge.{type_shape, members_shape}
 use Rattle.xt_shapes.specs.Keyable.{counted_keyable}
 use Rattle.xcdr_model.specs.Premises.{sound_members, distinct_members}
 use Rattle.key_instances.proofs.OfOctets.Tops.{members_kept, disc_leaf}
-use Rattle.key_instances.proofs.octets.lengths.short_key.Goals as goal
+use Rattle.key_instances.proofs.octets.lengths.ends_within_hash.Goals as goal
 
 pub end_of_counted-requires-clause-distinct : goal.end_of_counted-requires-clause-distinct
 end_of_counted-requires-clause-distinct c =
