@@ -77,6 +77,27 @@ fn sample_of<C: Cursor>(
     }
 }
 
+/// A record with these octets.
+fn record_of(alloc: Global, payload: &[u8]) -> Result<MemSink, Trouble> {
+    if payload.len() > MOST_OCTETS {
+        return Err(Trouble::Words);
+    }
+    let mut bundle = MemSink::new(alloc, 4_096, &[]);
+    match write_record(&mut bundle, Kind::Sample, payload) {
+        Ok(()) => Ok(bundle),
+        Err(_) => Err(Trouble::OutOfMemory),
+    }
+}
+
+/// A cursor over the first record, whose source gives at most so many octets in a call.
+fn cursor_over(bundle: &[u8], most: usize) -> Option<StreamCursor<MemSource<'_>>> {
+    let mut reader = BundleReader::new(MemSource::new(bundle, most, &[]));
+    match reader.next_head() {
+        Ok(Some(head)) => Some(StreamCursor::new(reader, head.length)),
+        Ok(None) | Err(_) => None,
+    }
+}
+
 /// Reads the sample from a record whose source gives at most so many octets in a call.
 fn streamed(
     alloc: Global,
@@ -87,18 +108,8 @@ fn streamed(
 ) -> Result<Answer, Trouble>
     requires { type_fault (tree ty.now) ≡ None }
 {
-    if payload.len() > MOST_OCTETS {
-        return Err(Trouble::Words);
-    }
-    let mut bundle = MemSink::new(alloc, 4_096, &[]);
-    if write_record(&mut bundle, Kind::Sample, payload).is_err() {
-        return Err(Trouble::OutOfMemory);
-    }
-    let mut reader = BundleReader::new(MemSource::new(bundle.octets(), most, &[]));
-    let Ok(Some(head)) = reader.next_head() else {
-        return Err(Trouble::Words);
-    };
-    let mut cursor = StreamCursor::new(reader, head.length);
+    let bundle = record_of(alloc, payload)?;
+    let mut cursor = cursor_over(bundle.octets(), most).ok_or(Trouble::Words)?;
     let answer = answer_of(alloc, ty, sample_of(alloc, rep, ty, &mut cursor))?;
     if cursor.end().next_head() != Ok(None) {
         return Err(Trouble::Words);
@@ -141,18 +152,57 @@ pub fn sample_read(alloc: Global, words: &str, case: &Case<'_>) -> Result<Answer
     Ok(Answer::Word("another answer from a stream"))
 }
 
-/// What the octets are read as by `decode1` or `decode2`, little-endian, without an encapsulation.
+/// Reads the body at the front of a cursor's region, little-endian.
+fn body_of<C: Cursor>(
+    alloc: Global,
+    rep: Rep,
+    ty: &XType,
+    cursor: &mut C,
+) -> Result<Outcome, DecodeFault>
+    requires { type_fault (tree ty.now) ≡ None }
+{
+    cursor.set_order(Order::Little);
+    match rep {
+        Rep::Xcdr1 => decode1(alloc, ty, cursor),
+        Rep::Xcdr2 => decode2(alloc, ty, cursor),
+    }
+}
+
+/// Whether exactly these octets are left of a record behind the body at its front, whose source gives at most so many octets in a call.
+fn is_left(
+    alloc: Global,
+    rep: Rep,
+    ty: &XType,
+    payload: &[u8],
+    most: usize,
+    left: &[u8],
+) -> Result<bool, Trouble>
+    requires { type_fault (tree ty.now) ≡ None }
+{
+    let bundle = record_of(alloc, payload)?;
+    let mut cursor = cursor_over(bundle.octets(), most).ok_or(Trouble::Words)?;
+    let outcome = body_of(alloc, rep, ty, &mut cursor);
+    let mut reader = cursor.end();
+    match reader.payload(alloc) {
+        Ok(rest) => Ok(outcome.is_ok() && rest.octets() == left),
+        Err(_) => Ok(false),
+    }
+}
+
+/// What the octets are read as by `decode1` or `decode2`, little-endian, without an encapsulation. Where a value is read, a cursor over a
+/// stream leaves the octets behind it too.
 pub fn body_read(alloc: Global, words: &str, case: &Case<'_>) -> Result<Answer, Trouble> {
     let rep = rep_named(words)?;
     let ty = type_of(alloc, case.ty)?;
     let body = octets_of(alloc, case.octets)?;
-    let mut cursor = SliceCursor::new(body.as_slice());
-    cursor.set_order(Order::Little);
-    let answer = match rep {
-        Rep::Xcdr1 => decode1(alloc, &ty, &mut cursor),
-        Rep::Xcdr2 => decode2(alloc, &ty, &mut cursor),
-    };
-    answer_of(alloc, &ty, answer)
+    let body = body.as_slice();
+    let mut cursor = SliceCursor::new(body);
+    let outcome = body_of(alloc, rep, &ty, &mut cursor);
+    let (_, left) = body.split_at((cursor.place() as usize).min(body.len()));
+    if outcome.is_ok() && !is_left(alloc, rep, &ty, body, 3, left)? {
+        return Ok(Answer::Word("other octets are left of a stream"));
+    }
+    answer_of(alloc, &ty, outcome)
 }
 
 /// The order that the last bit of a payload's second octet names.

@@ -1,7 +1,9 @@
 //! The adapters over std and TCP, and what never fails.
 use std::alloc::Global;
-use std::io;
+use std::io::{self, BufReader};
 use std::net::{Net as System, TcpListener, TcpStream};
+use std::test::Fail;
+use xt_io::BundleReader;
 use xt_lists::{OutOfMemory, Text};
 use xt_outside::{
     Door, Failed, Link, Net, NetFault, ReadSource, Sink, Source, SureLink, SureSink, SureSource,
@@ -45,18 +47,54 @@ impl io::Write for Device {
 }
 
 #[test]
-fn reads_through_a_reader_of_std(rt: HostRuntime) {
+fn reads_through_a_reader_of_std(rt: HostRuntime) -> Result<(), Fail> {
     let mut into = [0u8; 4];
     let mut source = ReadSource::new(b"abc".as_slice());
     assert_eq!(rt; source.read(&mut into), Ok(3));
     assert_eq!(rt; into, *b"abc\0");
     assert_eq!(rt; source.read(&mut into), Ok(0));
-    let mut failing = ReadSource::new(Device { calls: 0 });
+    let device = BufReader::with_capacity(rt.alloc(), 2, Device { calls: 0 })?;
+    let mut failing = ReadSource::new(device);
     assert_eq!(rt; failing.read(&mut into), Ok(1));
     assert_eq!(rt; into, *b"\x07bc\0");
     assert_eq!(rt; failing.read(&mut into), Err(Failed));
     assert_eq!(rt; failing.read(&mut into), Ok(0));
     assert_eq!(rt; failing.faults(), 1);
+    Ok(())
+}
+
+// What a reader has read ahead is at hand, and nothing is read for a slice without room.
+#[test]
+fn what_is_read_ahead_is_at_hand(rt: HostRuntime) -> Result<(), Fail> {
+    let ahead = BufReader::with_capacity(rt.alloc(), 3, b"abcde".as_slice())?;
+    let mut source = ReadSource::new(ahead);
+    let mut into = [0u8; 2];
+    assert_eq!(rt; source.at_hand(), 0);
+    assert_eq!(rt; source.read(&mut []), Ok(0));
+    assert_eq!(rt; source.at_hand(), 0);
+    assert_eq!(rt; source.read(&mut into), Ok(2));
+    assert_eq!(rt; source.at_hand(), 1);
+    assert_eq!(rt; source.read(&mut into), Ok(1));
+    assert_eq!(rt; source.at_hand(), 0);
+    assert_eq!(rt; source.read(&mut into), Ok(2));
+    assert_eq!(rt; source.read(&mut into), Ok(0));
+    Ok(())
+}
+
+// Two Notes of two octets and one, of which a reader shows eight octets at a time.
+#[test]
+fn what_a_reader_of_bundles_has_at_hand(rt: HostRuntime) -> Result<(), Fail> {
+    let octets = b"\x05\0\0\0\x02ab\x05\0\0\0\x01c";
+    let ahead = BufReader::with_capacity(rt.alloc(), 8, octets.as_slice())?;
+    let mut reader = BundleReader::new(ReadSource::new(ahead));
+    assert_eq!(rt; reader.has_head(), false);
+    assert_eq!(rt; reader.next_head().is_ok(), true);
+    assert_eq!(rt; reader.has_payload(), true);
+    assert_eq!(rt; reader.at_hand(), 2);
+    assert_eq!(rt; reader.has_head(), false);
+    assert_eq!(rt; reader.next_head().is_ok(), true);
+    assert_eq!(rt; reader.has_payload(), true);
+    Ok(())
 }
 
 #[test]

@@ -15,24 +15,18 @@ const BUNDLE: &[u8] = b"\x02\x00\x00\x00\x10abcdefghijklmnop\x05\x00\x00\x00\x02
 enum Step {
     Take(usize),
     Pass(u64),
-    Peek,
     Align,
 }
 
-// Octets that are held are taken in part, passed over in part, and peeked at once more; the last calls are too long.
-const STEPS: [Step; 14] = [
+// The last calls are too long.
+const STEPS: [Step; 9] = [
     Step::Take(1),
     Step::Align,
-    Step::Peek,
-    Step::Peek,
     Step::Take(2),
-    Step::Peek,
     Step::Pass(1),
     Step::Take(5),
-    Step::Peek,
     Step::Align,
     Step::Pass(5),
-    Step::Peek,
     Step::Take(4),
     Step::Take(1),
 ];
@@ -50,13 +44,6 @@ fn go<C: Cursor>(cursor: &mut C, step: Step, trace: &mut Text) -> Result<(), Out
     let outcome = match step {
         Step::Take(count) => cursor.take(&mut octets[..count.min(8)]),
         Step::Pass(count) => cursor.pass(count),
-        Step::Peek => match cursor.peek() {
-            Ok(next) => {
-                octets[..4].copy_from_slice(&next);
-                Ok(())
-            }
-            Err(fault) => Err(fault),
-        },
         Step::Align => cursor.align(4, 8),
     };
     trace.append(&octets)?;
@@ -121,23 +108,18 @@ fn a_source_that_fails(rt: HostRuntime) -> Result<(), Fail> {
     Ok(())
 }
 
-// The octets after the place are left, but for those that a last `peek` read.
+// Exactly the octets after the place are left.
 #[test]
 fn the_rest_is_left(rt: HostRuntime) -> Result<(), Fail> {
-    for (peeks, rest) in [
-        (false, b"defghijklmnop".as_slice()),
-        (true, b"hijklmnop".as_slice()),
-    ] {
-        let mut octets = [0u8; 3];
-        let mut cursor = first_payload(MemSource::new(BUNDLE, 2, &[])).ok_or("no head")?;
-        assert_eq!(rt; cursor.take(&mut octets), Ok(()));
-        if peeks {
-            assert_eq!(rt; cursor.peek(), Ok(*b"defg"));
-        }
-        let mut reader = cursor.end();
-        assert_eq!(rt; reader.payload(rt.alloc())?.octets(), rest);
-        let behind = reader.next_item(rt.alloc())?.ok_or("no record")?;
-        assert_eq!(rt; behind.payload.octets(), b"qr".as_slice());
-    }
+    let mut octets = [0u8; 3];
+    let mut cursor = first_payload(MemSource::new(BUNDLE, 2, &[])).ok_or("no head")?;
+    assert_eq!(rt; cursor.take(&mut octets), Ok(()));
+    let mut reader = cursor.end();
+    assert_eq!(rt;
+        reader.payload(rt.alloc())?.octets(),
+        b"defghijklmnop".as_slice()
+    );
+    let behind = reader.next_item(rt.alloc())?.ok_or("no record")?;
+    assert_eq!(rt; behind.payload.octets(), b"qr".as_slice());
     Ok(())
 }
