@@ -11,8 +11,8 @@ use Rattle.type_trees.specs.declared.types.Literal.{Literal}
 use Rattle.type_trees.specs.Trees.{Tree}
 use Rattle.json_values.specs.Names.{name_text}
 use Rattle.json_values.specs.Written.{data_of, vals_data, literal_data}
-use Rattle.packed_values.specs.declared.values.PackedSlot.{PackedSlot}
-use Rattle.packed_values.specs.View.{packed_slot}
+use Rattle.packed_reader.specs.declared.values.PackedSlot.{PackedSlot}
+use Rattle.packed_reader.specs.View.{packed_slot}
 use Rattle.packed_json.specs.declared.plan.Named.{Named}
 use Rattle.packed_json.specs.Plans.{Meaning, IsPlanOf, IsListPlanOf, PlansLiterals, list_meaning, vals_text, vals_fit, named_text, has_name, slot_at, are_present}
 

@@ -12,7 +12,7 @@ use Rattle.xt_shapes.specs.declared.leaves.Primitive.TheVariants.{Byte}
 use Rattle.xcdr_model.specs.Numbers.{number, with_sign}
 use Rattle.xt_shapes.specs.Sizes.{size}
 use Rattle.json_values.specs.Written.{int_data, prim_data}
-use Rattle.packed_values.specs.View.{number_of}
+use Rattle.packed_reader.specs.View.{number_of}
 use Rattle.packed_json.specs.Lists.{numbers_text, octets_text}
 
 pub numbers_next : (p : Primitive) (o : Order) (later : Bool) (n i : ℕ) (ys first more out comma behind : List ℕ) → i < n → first ≡ take (size p) ys → more ≡ drop (size p) ys → comma ≡ out ++ comma_if later → behind ≡ comma ++ compact_text (int_data (prim_data p) (number_of p o first))

@@ -4,8 +4,8 @@ use Rattle.serde_json.specs.Data.{Data}
 use Rattle.serde_json.specs.Written.{compact_text, items_text}
 use Rattle.xt_shapes.specs.Vals.{Val, listed, Vals, no_vals, one_val, vals_of}
 use Rattle.json_values.specs.Written.{vals_data, int_data, prim_data}
-use Rattle.packed_values.specs.declared.values.Numbers.{Numbers}
-use Rattle.packed_values.specs.View.{numbers_of}
+use Rattle.packed_reader.specs.declared.values.Numbers.{Numbers}
+use Rattle.packed_reader.specs.View.{numbers_of}
 use Rattle.packed_json.specs.Lists.{numbers_text}
 use Rattle.packed_json.specs.Plans.{Writes, leaf_meaning, list_meaning, vals_text, vals_fit}
 

@@ -6,7 +6,7 @@ use Rattle.xt_shapes.specs.declared.leaves.Order.{Order}
 use Rattle.xt_shapes.specs.declared.leaves.Primitive.{Primitive}
 use Rattle.xt_shapes.specs.Vals.{vals_of}
 use Rattle.json_values.specs.Written.{int_data, prim_data, vals_data}
-use Rattle.packed_values.specs.View.{numbers_in}
+use Rattle.packed_reader.specs.View.{numbers_in}
 
 -- n numbers, behind others or none, and the closing bracket
 abbrev pub numbers_text : Primitive → Order → Bool → ℕ → List ℕ → List ℕ

@@ -7,13 +7,13 @@ ghost use Rattle.json_values.specs.Written as json;
 ghost use Rattle.std.specs.Ordering.{int_eq};
 ghost use Rattle.std.specs.Prelude.{pos, negsuc, int_le, true};
 ghost use Rattle.serde_json.specs.Data.{boolean};
-ghost use Rattle.packed_values.specs.View.{number_of};
+ghost use Rattle.packed_reader.specs.View.{number_of};
 ghost use Rattle.packed_json.specs.Lists.{numbers_text, octets_text};
 
 use crate::bits::{put_double, put_single};
 use crate::block::{Block, add_digits, make_room};
 use crate::texts::{put, put_comma};
-use packed_values::Numbers;
+use packed_reader::Numbers;
 use type_values::is_of_prim;
 use xt_lists::Text;
 use xt_shapes::{Order, Prim};

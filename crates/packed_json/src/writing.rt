@@ -3,13 +3,13 @@ ghost use Rattle.std.specs.Prelude.{◌≡◌, ◌++◌, false, map, IfSome};
 ghost use Rattle.serde_json.specs.Written.{comma_if};
 ghost use Rattle.xt_shapes.specs.Vals.{int, text, listed, struct_of, vals_of, slots_of};
 ghost use Rattle.json_values.specs.Written.{int_data, prim_data, mask_data, octets_data};
-ghost use Rattle.packed_values.specs.View.{packed_val, packed_slot, numbers_of};
+ghost use Rattle.packed_reader.specs.View.{packed_val, packed_slot, numbers_of};
 ghost use Rattle.packed_json.specs.Plans.{Writes, WritesItems, WritesPart, WritesParts, are_present, leaf_meaning, list_meaning, literal_meaning, meaning, part, parts_of, struct_meaning};
 
 use crate::numbers::{put_list, put_prim, put_whole};
 use crate::plan::{Named, Plan, PlannedMember, Structure};
 use crate::texts::{put, put_comma, put_text};
-use packed_values::{Numbers, Packed, PackedSlot};
+use packed_reader::{Numbers, Packed, PackedSlot};
 use type_values::is_of_prim;
 use xt_lists::Text;
 use xt_shapes::Prim;
@@ -161,7 +161,7 @@ fn write_list(plan: &Plan, values: &[Packed<'_>], out: &mut Text) -> Option<()>
 
 /// Appends the JSON of a value by its type's plan. None says nothing, and what was appended is to be thrown away.
 #[cycle(writing)]
-#[tactic(auto, using(crate::proofs::Meanings::plan_rules, packed_values::proofs::Views::packed_rules))]
+#[tactic(auto, using(crate::proofs::Meanings::plan_rules, packed_reader::proofs::Views::packed_rules))]
 pub fn write_value(plan: &Plan, value: &Packed<'_>, out: &mut Text) -> Option<()>
     ensures { IfSome result (λ u. Writes (meaning plan.now) (packed_val value.now) out.old out.new) }
 {

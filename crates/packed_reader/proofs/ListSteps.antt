@@ -16,8 +16,8 @@ use Rattle.xcdr_model.specs.Reading.{Spot, Reading, ◌>>=◌, number_at, each_a
 use Rattle.xcdr_model.specs.Xcdr1Reading.{read1}
 use Rattle.xcdr_model.specs.Xcdr2Reading.{read, done, is_primitive, collection_at, counted_at}
 use Rattle.shape_laws.proofs.Self.{own_items}
-use Rattle.packed_values.specs.declared.values.Numbers.{Numbers}
-use Rattle.packed_values.specs.View.{numbers_of}
+use Rattle.packed_reader.specs.declared.values.Numbers.{Numbers}
+use Rattle.packed_reader.specs.View.{numbers_of}
 use Rattle.packed_reader.specs.Spots.{IsRegion}
 use Rattle.packed_reader.specs.Reads.{read_in, plain, Reads, ReadsCounted, ReadsEach, ReadsNumbers}
 use Rattle.packed_reader.proofs.NumberSteps.{numbers_count}

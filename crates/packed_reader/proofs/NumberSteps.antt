@@ -15,7 +15,7 @@ use Rattle.xcdr_model.specs.declared.malformed.Fault.{Fault}
 use Rattle.xcdr_model.specs.declared.malformed.Why.TheVariants.{Short}
 use Rattle.xcdr_model.specs.Numbers.{number, padding}
 use Rattle.xcdr_model.specs.Reading.{Spot, Reading, ◌>>=◌, octets_at, each_at, step}
-use Rattle.packed_values.specs.View.{number_of, numbers_in}
+use Rattle.packed_reader.specs.View.{number_of, numbers_in}
 use Rattle.packed_reader.specs.Reads.{most, plain, Reads, ReadsEach}
 use Rattle.packed_reader.proofs.Steps.{number_ahead}
 use Rattle.packed_reader.proofs.Alignment.{aligned_more, aligned_after, size_some}

@@ -1,3 +1,4 @@
+pub mod View
 pub mod Spots
 pub mod Reads
 pub mod Pieces

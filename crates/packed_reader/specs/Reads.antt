@@ -13,8 +13,8 @@ use Rattle.xcdr_model.specs.Projection.{Part, got, whole_structure}
 use Rattle.xcdr_model.specs.Reading.{Spot, Reading, number_at, each_at}
 use Rattle.xcdr_model.specs.Xcdr1Reading.{read1, read_members1, optional1_at, content_read, is_open}
 use Rattle.xcdr_model.specs.Xcdr2Reading.{read, read_members, optional_at, done}
-use Rattle.packed_values.specs.declared.values.Numbers.{Numbers}
-use Rattle.packed_values.specs.View.{numbers_of}
+use Rattle.packed_reader.specs.declared.values.Numbers.{Numbers}
+use Rattle.packed_reader.specs.View.{numbers_of}
 
 -- in XCDR1 a value that has only its own octets
 abbrev pub read_in : Rep → Order → Shape → Spot → Reading Part

@@ -8,14 +8,14 @@ ghost use Rattle.xt_shapes.specs.Sizes as sizes;
 ghost use Rattle.xt_shapes.specs.Vals.{int};
 ghost use Rattle.xcdr_model.specs.Numbers.{with_sign};
 ghost use Rattle.xcdr_model.specs.Xcdr2Reading.{present_at};
-ghost use Rattle.packed_values.specs.View.{packed_val};
+ghost use Rattle.packed_reader.specs.View.{packed_val};
 ghost use Rattle.packed_reader.specs.Spots.{spot_of};
 ghost use Rattle.xt_wire.specs.numbers.Units.{IsUnit};
 ghost use Rattle.packed_reader.specs.Reads.{Reads, IsValue};
 
 use crate::ahead::Ahead;
 use crate::numbers::{next_aligned, next_octets, next_word};
-use packed_values::Packed;
+use crate::values::Packed;
 use settled_parts::{Made, enum_part};
 use type_trees::{EnumType, Literal, MaskType};
 use type_values::{fits_bits, is_past};

@@ -11,6 +11,8 @@ mod pieces;
 mod plain;
 mod reading;
 mod samples;
+mod values;
 
 pub use plain::may_be_plain;
 pub use samples::read_plain;
+pub use values::{Numbers, Packed, PackedSlot};

@@ -9,7 +9,7 @@ ghost use Rattle.packed_reader.specs.Reads.{most, ReadsNumbers};
 
 use crate::ahead::Ahead;
 use crate::numbers::{next_octets, padding_in};
-use packed_values::Numbers;
+use crate::values::Numbers;
 use xt_shapes::{Order, Prim, Rep};
 use xt_wire::numbers::{is_boolean, prim_size};
 

@@ -7,7 +7,7 @@ ghost use Rattle.xt_shapes.specs.declared.leaves.Ext.TheVariants.{Appendable, Mu
 ghost use Rattle.xt_shapes.specs.Shape as model;
 ghost use Rattle.xt_shapes.specs.Shape.{product};
 ghost use Rattle.xcdr_model.specs.Xcdr2Reading.{is_primitive};
-ghost use Rattle.packed_values.specs.View.{packed_val, packed_slot};
+ghost use Rattle.packed_reader.specs.View.{packed_val, packed_slot};
 ghost use Rattle.packed_reader.specs.Spots.{spot_of};
 ghost use Rattle.packed_reader.specs.Pieces.{ReadsPiece, ReadsPieces};
 ghost use Rattle.packed_reader.specs.Reads.{Reads, ReadsCounted, ReadsEach, ReadsMembers, ReadsSlot};
@@ -17,7 +17,7 @@ use crate::leaves::{read_enum, read_mask, read_presence, read_prim, read_text};
 use crate::lists::read_numbers;
 use crate::numbers::{next_region, next_word};
 use crate::pieces::next_content;
-use packed_values::{Packed, PackedSlot};
+use crate::values::{Packed, PackedSlot};
 use std::alloc::Global;
 use type_trees::sizes::elements_of;
 use type_trees::{Elem, Member, StructType, XType, as_prim};

@@ -6,13 +6,13 @@ ghost use Rattle.xcdr_model.specs.Premises.{sound};
 ghost use Rattle.xcdr_model.specs.Samples as model;
 ghost use Rattle.xcdr_model.specs.Xcdr1Reading as spec;
 ghost use Rattle.projection_laws.specs.Premises.{IsValid};
-ghost use Rattle.packed_values.specs.View.{packed_val};
+ghost use Rattle.packed_reader.specs.View.{packed_val};
 ghost use Rattle.packed_reader.specs.Bodies.{IsHead, IsBody, IsOwn, IsTail};
 ghost use Rattle.packed_reader.specs.Spots.{spot_of};
 
 use crate::ahead::Ahead;
 use crate::reading::{read_members, read_packed};
-use packed_values::Packed;
+use crate::values::Packed;
 use std::alloc::Global;
 use type_rules::shape_keeps_rules;
 use type_trees::{XType, as_struct};

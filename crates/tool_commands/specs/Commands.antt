@@ -7,7 +7,7 @@ use Rattle.xt_shapes.specs.declared.leaves.Rep.{Rep}
 use Rattle.tool_runs.specs.declared.output.ending.Style.TheVariants.{Lines, Records}
 use Rattle.tool_runs.specs.output.Outputs.{Output, Refusal, ◌>>=◌, after_pieces, run, taking, finished}
 use Rattle.tool_samples.specs.lines.Lines.{read_turn, convert_turn, write_turn}
-use Rattle.tool_instances.specs.Instancing.{instances_body}
+use Rattle.tool_samples.specs.instances.Instancing.{instances_body}
 use Rattle.tool_words.specs.Words.{Pair, Reference}
 use Rattle.tool_verdicts.specs.Verdicts.{id_and_pool, reader_type, top_and_pool, top_type}
 use Rattle.tool_recordings.specs.Recording.{opening_pieces, samples_recorded}

@@ -7,9 +7,9 @@ ghost use Rattle.tool_words.specs.View.{pair_view};
 ghost use Rattle.tool_commands.specs.Commands.{instances_lines};
 
 use std::alloc::Global;
-use tool_instances::LastSamples;
 use tool_runs::Prepares;
 use tool_runs::output::{Halt, Stop, Style, Turns};
+use tool_samples::instances::LastSamples;
 use tool_verdicts::reader_type;
 use tool_words::{Depth, Pair};
 use xt_io::{Item, Sink};

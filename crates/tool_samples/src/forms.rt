@@ -7,7 +7,7 @@ ghost use Rattle.tool_samples.specs.lines.Lines as lines;
 
 use crate::lines::{malformed_text, outcome_text, sample_record};
 use packed_json::{Plan, write_value};
-use packed_values::Packed;
+use packed_reader::Packed;
 use settled_parts::Outcome;
 use std::alloc::Global;
 use tool_runs::output::{line, record};
@@ -28,7 +28,7 @@ pub trait Shows {
     ghost use Rattle.xcdr_model.specs.Samples as samples;
     ghost use Rattle.xcdr_model.specs.declared.malformed.Fault.{Fault};
     ghost use Rattle.std.specs.Prelude.{IfSome};
-    ghost use Rattle.packed_values.specs.View.{packed_val};
+    ghost use Rattle.packed_reader.specs.View.{packed_val};
     ghost use Rattle.packed_json.specs.Plans.{IsPlanOf, meaning};
     ghost use Rattle.tool_runs.specs.declared.output.ending.Style.{Style};
 

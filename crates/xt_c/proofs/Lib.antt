@@ -1,3 +1,4 @@
+pub mod OfBoxes
 pub mod TypesValues
 pub mod ReaderValues
 pub mod Told

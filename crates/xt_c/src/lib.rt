@@ -13,6 +13,7 @@ ghost use Rattle.xt_calls.specs.Laws.{line_of, record_of, turn_of};
 ghost use Rattle.xt_calls.specs.Opened.{front};
 ghost use Rattle.xt_c.specs.Exports as spec;
 
+mod boxes;
 mod held_reader;
 mod held_types;
 mod opening;

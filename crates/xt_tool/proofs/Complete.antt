@@ -46,8 +46,8 @@ use Rattle.tool_samples.specs.lines.Lines.{judged, json_refusal, unless_failed, 
 use Rattle.tool_verdicts.specs.Verdicts.{NamedAreValid, assignable, reader_type}
 use Rattle.tool_recordings.specs.Recording.{opening_pieces, record_turn, samples_recorded}
 use Rattle.tool_recordings.specs.Replaying.{replay_turn, replayed, stepped}
-use Rattle.tool_instances.specs.Instancing.{full, instances_body, instances_end, most_keys}
-use Rattle.tool_instances.specs.Laws.{KeepsLast, has_place, kept_output, puts_of}
+use Rattle.tool_samples.specs.instances.Instancing.{full, instances_body, instances_end, most_keys}
+use Rattle.tool_samples.specs.instances.Laws.{KeepsLast, has_place, kept_output, puts_of}
 use Rattle.tool_commands.specs.listing.Listing.{all_shown, all_texts, object_record}
 use Rattle.type_resolve.specs.Adding.{all_added}
 use Rattle.tool_verdicts.specs.Versions.{findings, telling, versions}

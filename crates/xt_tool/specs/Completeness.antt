@@ -22,8 +22,8 @@ use Rattle.tool_types.specs.Types.{Declared, declare}
 use Rattle.tool_types.specs.names.Names.{pair_named, top_named}
 use Rattle.tool_words.specs.Words.{Pair, Command, compile, judge, read, write, convert, show, wrap, instances, keep, replay, make, compare, command_of}
 use Rattle.tool_samples.specs.lines.Lines.{most_octets}
-use Rattle.tool_instances.specs.Instancing.{most_keys}
-use Rattle.tool_instances.specs.Laws.{puts_of}
+use Rattle.tool_samples.specs.instances.Instancing.{most_keys}
+use Rattle.tool_samples.specs.instances.Laws.{puts_of}
 use Rattle.tool_verdicts.specs.Versions.{any_breaks, ending_of, findings, versions}
 use Rattle.xt_tool.specs.Headline.{AreSamples}
 use Rattle.xt_tool.specs.Output.{output_of}

@@ -1,7 +1,7 @@
 ghost use Rattle.xt_tool.specs.Headline as law;
 ghost use Rattle.xt_tool.specs.Completeness.{Completeness};
 
-use tool_instances::keeps_last;
+use tool_samples::instances::keeps_last;
 use tool_verdicts::named_are_valid;
 use type_rules::shape_keeps_rules;
 

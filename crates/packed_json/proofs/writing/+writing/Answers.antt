@@ -1,7 +1,7 @@
 use Rattle.std.proofs.Common.{◌≡◌, ◌∙◌, ◌++◌, ap, map, arith}
 use Rattle.xt_shapes.specs.Vals.{slots_of, present}
-use Rattle.packed_values.specs.View.{packed_slot, packed_val}
-use Rattle.packed_values.proofs.Views.{packed_present}
+use Rattle.packed_reader.specs.View.{packed_slot, packed_val}
+use Rattle.packed_reader.proofs.Views.{packed_present}
 use Rattle.packed_json.specs.Plans.{slot_at}
 use Rattle.packed_json.proofs.Structures.{member_written}
 use Rattle.packed_json.proofs.ListLaws.{slot_there}

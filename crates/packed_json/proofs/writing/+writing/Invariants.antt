@@ -1,6 +1,6 @@
 use Rattle.std.proofs.Common.{◌≡◌, ◌++◌, drop, map, false, ◌∷◌, []}
 use Rattle.xt_shapes.specs.Vals.{vals_of, slots_of}
-use Rattle.packed_values.specs.View.{packed_val, packed_slot}
+use Rattle.packed_reader.specs.View.{packed_val, packed_slot}
 use Rattle.packed_json.specs.Plans.{meaning, part, vals_text, vals_fit, parts_text, parts_fit}
 use Rattle.packed_json.proofs.writing.+writing.Given as goal
 

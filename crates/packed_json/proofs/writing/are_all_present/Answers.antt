@@ -1,5 +1,5 @@
 use Rattle.std.proofs.Common.{◌∙◌, sym, map}
-use Rattle.packed_values.specs.View.{packed_slot}
+use Rattle.packed_reader.specs.View.{packed_slot}
 use Rattle.packed_json.proofs.ListLaws.{not_so_many, slots_many}
 use Rattle.packed_json.proofs.writing.are_all_present.Goals as goal
 

@@ -1,6 +1,6 @@
 use Rattle.std.proofs.Common.{◌≡◌, drop, map, length}
 use Rattle.xt_shapes.specs.Vals.{slots_of}
-use Rattle.packed_values.specs.View.{packed_slot}
+use Rattle.packed_reader.specs.View.{packed_slot}
 use Rattle.packed_json.specs.Plans.{are_present}
 use Rattle.packed_json.proofs.writing.are_all_present.Given as goal
 

@@ -1,6 +1,6 @@
 use Rattle.std.proofs.Common.{map}
 use Rattle.type_trees.specs.Bridge.{literal_shape}
-use Rattle.packed_values.specs.View.{packed_val}
+use Rattle.packed_reader.specs.View.{packed_val}
 use Rattle.packed_reader.specs.Spots.{spot_of}
 use Rattle.packed_reader.proofs.LeafSteps.{enum_is}
 use Rattle.packed_reader.proofs.leaves.read_enum.Goals as goal

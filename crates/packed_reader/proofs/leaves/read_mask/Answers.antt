@@ -1,7 +1,7 @@
 use Rattle.std.proofs.Common.{◌≡◌, ◌^◌, pos, true, map, rules}
 use Rattle.xt_shapes.specs.Typing.{is_below}
 use Rattle.type_trees.specs.Bridge.{flag_shape}
-use Rattle.packed_values.proofs.Views.{packed_natural}
+use Rattle.packed_reader.proofs.Views.{packed_natural}
 use Rattle.packed_reader.specs.Spots.{spot_of}
 use Rattle.packed_reader.proofs.LeafSteps.{mask_is}
 use Rattle.packed_reader.proofs.leaves.read_mask.Goals as goal

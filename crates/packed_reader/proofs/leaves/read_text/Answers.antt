@@ -1,5 +1,5 @@
 use Rattle.std.proofs.Common.{◌≡◌, sym, ◌∙◌, ◌==◌, false, rules}
-use Rattle.packed_values.proofs.Views.{packed_text}
+use Rattle.packed_reader.proofs.Views.{packed_text}
 use Rattle.packed_reader.specs.Spots.{spot_of}
 use Rattle.packed_reader.proofs.LeafSteps.{text_is}
 use Rattle.packed_reader.proofs.leaves.read_text.Goals as goal

@@ -5,8 +5,8 @@ use Rattle.type_trees.proofs.types.Member.TheLaws as member_laws
 use Rattle.xt_shapes.specs.declared.leaves.Ext.TheVariants.{Final, Appendable, Mutable}
 use Rattle.xt_shapes.specs.Shape.{product}
 use Rattle.type_trees.specs.Bridge.{type_shape, members_shape, member_head}
-use Rattle.packed_values.specs.View.{packed_val, packed_slot}
-use Rattle.packed_values.proofs.Views.{packed_absent, packed_present, packed_struct, packed_numbers, packed_list}
+use Rattle.packed_reader.specs.View.{packed_val, packed_slot}
+use Rattle.packed_reader.proofs.Views.{packed_absent, packed_present, packed_struct, packed_numbers, packed_list}
 use Rattle.packed_reader.specs.Spots.{spot_of}
 use Rattle.packed_reader.proofs.Steps.{empty_is}
 use Rattle.packed_reader.proofs.Taken.{none_taken}

@@ -4,7 +4,7 @@ use Rattle.xcdr_model.specs.Premises.{sound_members}
 use Rattle.xcdr_model.specs.Projection.{whole_structure}
 use Rattle.xcdr_model.specs.Reading.{each_at}
 use Rattle.xcdr_model.specs.Xcdr2Reading.{done}
-use Rattle.packed_values.specs.View.{packed_val, packed_slot}
+use Rattle.packed_reader.specs.View.{packed_val, packed_slot}
 use Rattle.packed_reader.specs.Reads.{read_in, members_in}
 use Rattle.packed_reader.specs.Spots.{spot_of}
 use Rattle.packed_reader.proofs.Taken.{Taken}

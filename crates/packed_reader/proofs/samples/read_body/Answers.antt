@@ -1,6 +1,6 @@
 use Rattle.std.proofs.Common.{sym, ◌∙◌}
 use Rattle.type_trees.specs.Bridge.{type_shape}
-use Rattle.packed_values.specs.View.{packed_val}
+use Rattle.packed_reader.specs.View.{packed_val}
 use Rattle.packed_reader.proofs.SampleSteps.{own_two, own_one, tail_one}
 use Rattle.packed_reader.proofs.samples.read_body.Goals as goal
 

@@ -1,5 +1,5 @@
 use Rattle.type_trees.specs.Bridge.{type_shape}
-use Rattle.packed_values.specs.View.{packed_val}
+use Rattle.packed_reader.specs.View.{packed_val}
 use Rattle.packed_reader.proofs.SampleSteps.{sample_is}
 use Rattle.packed_reader.proofs.samples.read_plain.Goals as goal
 

@@ -1,6 +1,6 @@
 use denote.Param.Send.{IsSend}
 use Rattle.xt_calls.specs.contracts.readers.Reader as reader
-use Rattle.c_boxes.proofs.Crosses.{held_keyless}
+use Rattle.xt_c.proofs.OfBoxes.Crosses.{held_keyless}
 use Rattle.xt_c.specs.contracts.held_reader.ReaderHandle.{the_row}
 use Rattle.xt_c.proofs.Crosses.{reader_send}
 

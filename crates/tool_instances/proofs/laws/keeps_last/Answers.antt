@@ -1,5 +1,0 @@
-use Rattle.tool_instances.proofs.Kept.{the_last_are_kept}
-use Rattle.tool_instances.proofs.laws.keeps_last.Goals as goal
-
-pub returns : goal.returns
-returns c = the_last_are_kept c.keeps_last.ensures

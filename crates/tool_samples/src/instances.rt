@@ -1,0 +1,9 @@
+//! The last values of each key, from the samples of a body, and the lines of them at its end.
+
+mod keeping;
+mod laws;
+mod lines;
+mod putting;
+
+pub use keeping::LastSamples;
+pub use laws::keeps_last;

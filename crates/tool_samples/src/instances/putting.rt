@@ -1,0 +1,107 @@
+ghost use Rattle.std.specs.Prelude.{◌≡◌, ◌≤◌, ◌<◌, ◌^◌, length, Ok, IsTrue};
+ghost use Rattle.xt_shapes.specs.Typing.{has_type};
+ghost use Rattle.type_trees.specs.Bridge.{type_shape};
+ghost use Rattle.type_trees.specs.View.{tree, val};
+ghost use Rattle.settled_parts.specs.Settling.{outcome_val};
+ghost use Rattle.projection_laws.specs.Premises.{IsValid};
+ghost use Rattle.xcdr_model.specs.KeyOctets as spec;
+ghost use Rattle.xcdr_model.specs.Samples.{sample};
+ghost use Rattle.key_instances.specs.Caches.{instances};
+ghost use Rattle.tool_runs.specs.output.Runs.{Refuses};
+ghost use Rattle.tool_samples.specs.instances.Instancing.{full, outcome_turn, payload_turn};
+ghost use Rattle.tool_samples.specs.instances.Keeping.{HasKey, Keeps};
+
+use key_instances::octets::key_octets;
+use key_instances::{Instances, PutFault};
+use settled_parts::Outcome;
+use shape_laws::{key_octets_bound, sample_typed};
+use std::alloc::Global;
+use tool_runs::output::{Cause, Halt, Refused, Stop};
+use type_rules::{is_within_limits, shape_keeps_rules};
+use type_trees::{Value, XType};
+use xcdr_samples::read_sample;
+use xt_lists::Text;
+use xt_shapes::Rep;
+use xt_wire::cursor::{DecodeFault, SliceCursor};
+
+fn refuse_key(alloc: Global) -> Stop
+    ensures { Refuses full result }
+{
+    match Text::from_octets(alloc, b"instances full") {
+        Ok(text) => Stop::Refused(Refused {
+            text,
+            cause: Cause::Limit,
+        }),
+        Err(_) => Stop::Halted(Halt::OutOfMemory),
+    }
+}
+
+// A value under its key.
+fn put_value(alloc: Global, ty: &XType, value: Value, cache: &mut Instances) -> Result<(), Stop>
+    requires valid { IsValid ty.now }
+    requires typed { IsTrue (has_type (type_shape ty.now) (val value)) }
+    requires few { length (spec.key_octets (type_shape ty.now) (val value)) < 2 ^ 32 }
+    requires most { cache.old.most ≡ 65536 }
+    ensures put { Keeps (outcome_turn cache.old.depth (tree ty.now) (instances cache.old) (Ok (sample (val value)))) (instances cache.new) result }
+    ensures depth { cache.new.depth ≡ cache.old.depth }
+    ensures most { cache.new.most ≡ cache.old.most }
+{
+    let Ok(key) = key_octets(alloc, ty, &value) else {
+        return Err(Stop::Halted(Halt::OutOfMemory));
+    };
+    match cache.put(key, value) {
+        Ok(()) => Ok(()),
+        Err(PutFault::Full) => Err(refuse_key(alloc)),
+        Err(PutFault::OutOfMemory) => Err(Stop::Halted(Halt::OutOfMemory)),
+    }
+}
+
+// What the reader's type makes of a sample.
+fn put_outcome(
+    alloc: Global,
+    ty: &XType,
+    outcome: Outcome,
+    cache: &mut Instances,
+) -> Result<(), Stop>
+    requires valid { IsValid ty.now }
+    requires key { HasKey (type_shape ty.now) (outcome_val outcome) }
+    requires most { cache.old.most ≡ 65536 }
+    ensures put { Keeps (outcome_turn cache.old.depth (tree ty.now) (instances cache.old) (Ok (outcome_val outcome))) (instances cache.new) result }
+    ensures depth { cache.new.depth ≡ cache.old.depth }
+    ensures most { cache.new.most ≡ cache.old.most }
+{
+    match outcome {
+        Outcome::Sample(value) => put_value(alloc, ty, value, cache),
+        Outcome::Discarded | Outcome::MustUnderstand => Ok(()),
+    }
+}
+
+/// Puts the value that the reader's type makes of a sample under its key. A sample that is discarded, must be understood or is malformed is
+/// passed over. A key too many is refused. After a stop the cache is unchanged.
+pub fn put_sample(
+    alloc: Global,
+    rep: Rep,
+    ty: &XType,
+    payload: &[u8],
+    cache: &mut Instances,
+) -> Result<(), Stop>
+    requires valid { IsValid ty.now }
+    requires size { length payload.now ≤ 1048576 }
+    requires most { cache.old.most ≡ 65536 }
+    ensures put { Keeps (payload_turn cache.old.depth rep (tree ty.now) (instances cache.old) payload.now) (instances cache.new) result }
+    ensures depth { cache.new.depth ≡ cache.old.depth }
+    ensures most { cache.new.most ≡ cache.old.most }
+{
+    shape_keeps_rules();
+    is_within_limits();
+    sample_typed();
+    key_octets_bound();
+    let mut cursor = SliceCursor::new(payload);
+    match read_sample(alloc, rep, ty, &mut cursor) {
+        Ok(outcome) => put_outcome(alloc, ty, outcome, cache),
+        Err(DecodeFault::Malformed { .. }) => Ok(()),
+        Err(DecodeFault::ReadFault | DecodeFault::OutOfMemory) => {
+            Err(Stop::Halted(Halt::OutOfMemory))
+        }
+    }
+}
