@@ -16,7 +16,8 @@ ghost use Rattle.xcdr_model.specs.Keys.{key};
 ghost use Rattle.xcdr_model.specs.Projection.{got};
 ghost use Rattle.xcdr_model.specs.SampleSpelling.{spells};
 ghost use Rattle.xcdr_model.specs.Samples.{sample, body_outcome, body_read, projection, read_sample};
-ghost use Rattle.projection_laws.specs.Premises.{IsValid, IsYes};
+ghost use Rattle.projection_laws.specs.Inside.{ReadsAsTail, ReadsInside};
+ghost use Rattle.projection_laws.specs.Premises.{FitsInside, IsStrongPair, IsValid, IsYes};
 
 use type_rules::shape_keeps_rules;
 use type_trees::{Value, XType};
@@ -36,6 +37,30 @@ pub fn cross(policy: &Policy, rep: Rep, t1: &XType, t2: &XType, v: &Value, octet
     shape_laws::cross();
 }
 
+/// The same of a value inside another that has the rest of its region, at any place: it is read as its projection, and the region is
+/// used up.
+pub fn cross_tail(policy: &Policy, rep: Rep, t1: &XType, t2: &XType, v: &Value, octets: &[u8])
+    requires reader { IsValid t1.now }
+    requires writer { IsValid t2.now }
+    requires fits { FitsInside policy.now rep t1.now t2.now }
+    ensures { ReadsAsTail rep (type_shape t1.now) (type_shape t2.now) (val v.now) octets.now }
+{
+    shape_keeps_rules();
+    shape_laws::cross_tail();
+}
+
+/// The same of a value inside another with other octets behind it, at any place: it is read as its projection, using exactly its own
+/// octets.
+pub fn cross_inner(policy: &Policy, rep: Rep, t1: &XType, t2: &XType, v: &Value, octets: &[u8])
+    requires reader { IsValid t1.now }
+    requires writer { IsValid t2.now }
+    requires strong { IsStrongPair policy.now rep t1.now t2.now }
+    ensures { ReadsInside rep (type_shape t1.now) (type_shape t2.now) (val v.now) octets.now }
+{
+    shape_keeps_rules();
+    shape_laws::cross_inner();
+}
+
 /// The key comes through: where the projection of a value of the writer's type is a sample, the sample's key under the reader's
 /// type is the value's under the writer's.
 pub fn cross_key(policy: &Policy, rep: Rep, t1: &XType, t2: &XType, v: &Value)
@@ -49,14 +74,17 @@ pub fn cross_key(policy: &Policy, rep: Rep, t1: &XType, t2: &XType, v: &Value)
     shape_laws::cross_key();
 }
 
-/// Under its own type each body that spells a value is read as that value, with nothing unknown that must be understood.
+/// Under its own type each body that spells a value is read as that value, with nothing unknown that must be understood, and the
+/// value's projection is the value itself. So it is also where a type's key members make it not assignable from itself.
 pub fn self_read(rep: Rep, t: &XType, v: &Value, octets: &[u8])
     requires valid { IsValid t.now }
     requires typed { IsTrue (has_type (type_shape t.now) (val v.now)) }
-    ensures { (o : Order) → spells rep o (type_shape t.now) (val v.now) 0 octets.now → body_read rep o (type_shape t.now) octets.now ≡ Ok (got (val v.now), false) }
+    ensures read { (o : Order) → spells rep o (type_shape t.now) (val v.now) 0 octets.now → body_read rep o (type_shape t.now) octets.now ≡ Ok (got (val v.now), false) }
+    ensures projected { projection (type_shape t.now) (type_shape t.now) (val v.now) ≡ sample (val v.now) }
 {
     shape_keeps_rules();
     shape_laws::self_read();
+    shape_laws::self_projected();
 }
 
 /// A value that is read from a body or a sample has at most the type's weight and 128 nodes for each octet.

@@ -33,7 +33,7 @@ use Rattle.xcdr_model.proofs.FromRules.{sound_from, storable_from, apart_from, l
 use Rattle.shape_laws.specs.KeyLaws.{KeyOctetsTell, KeysCross, KeyOctetsBound}
 use Rattle.shape_laws.specs.Premises.{PremisesHold, DefaultTyped}
 use Rattle.shape_laws.specs.Readings.{OneOf, OneReading, BodyIsValue, ValueTyped, ReadTyped, SampleTyped, ValueNodesBound, NodesBound, SampleNodesBound}
-use Rattle.shape_laws.specs.RoundTrips.{SelfRead, FixedSpells, RoundTrip, SampleWritten, SizeSame, SampleSized}
+use Rattle.shape_laws.specs.RoundTrips.{SelfRead, SelfProjected, FixedSpells, RoundTrip, SampleWritten, SizeSame, SampleSized}
 use Rattle.shape_laws.specs.Soundness.{Cross, CrossSample, CrossTail, CrossInner, CrossKey, ProjectionTyped}
 use Rattle.shape_laws.specs.Verdicts.{Equivalent, Judged, JudgedNested, ExactlyOne}
 use Rattle.shape_laws.proofs.Costs.{bind_ok}
@@ -99,6 +99,9 @@ the_projection_typed q r t t2 v w h k = typing q r t t2 v w (sound_from t h) (so
 
 pub the_self_read : SelfRead
 the_self_read r o t v b h = reading_self r o t v b (sound_from t h)
+
+pub the_self_projected : SelfProjected
+the_self_projected t v h k = ap outcome_of (self t (sound_from t h) v k)
 
 pub the_fixed_spells : FixedSpells
 the_fixed_spells r o t v p h = spelling_fixed r o t v p (sound_from t h) (storable_from t h)

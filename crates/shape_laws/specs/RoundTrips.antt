@@ -9,11 +9,15 @@ use Rattle.xt_shapes.specs.Vals.{Val}
 use Rattle.xcdr_model.specs.FixedSpelling.{fixed_of}
 use Rattle.xcdr_model.specs.Projection.{got}
 use Rattle.xcdr_model.specs.SampleSpelling.{spells, IsSample, fixed_sample, sample_size}
-use Rattle.xcdr_model.specs.Samples.{sample, body_read, read_sample}
+use Rattle.xcdr_model.specs.Samples.{sample, body_read, read_sample, projection}
 
 -- Under its own type each body that spells a value is read as that value.
 abbrev pub SelfRead : Type 0
 SelfRead = (r : Rep) (o : Order) (t : Shape) (v : Val) (b : List ℕ) → IsTrue (rules_hold t) → IsTrue (has_type t v) → spells r o t v 0 b → body_read r o t b ≡ Ok (got v, false)
+
+-- A value's projection onto its own type is the value, as a sample.
+abbrev pub SelfProjected : Type 0
+SelfProjected = (t : Shape) (v : Val) → IsTrue (rules_hold t) → IsTrue (has_type t v) → projection t t v ≡ sample v
 
 -- The fixed spelling is a spelling, at each place, where its octets can be counted.
 abbrev pub FixedSpells : Type 0

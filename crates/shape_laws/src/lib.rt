@@ -5,7 +5,7 @@
 ghost use Rattle.shape_laws.specs.KeyLaws.{KeyOctetsTell, KeysCross, KeyOctetsBound};
 ghost use Rattle.shape_laws.specs.Premises.{PremisesHold, DefaultTyped};
 ghost use Rattle.shape_laws.specs.Readings.{OneReading, BodyIsValue, ValueTyped, ReadTyped, SampleTyped, ValueNodesBound, NodesBound, SampleNodesBound};
-ghost use Rattle.shape_laws.specs.RoundTrips.{SelfRead, FixedSpells, RoundTrip, SampleWritten, SizeSame, SampleSized};
+ghost use Rattle.shape_laws.specs.RoundTrips.{SelfRead, SelfProjected, FixedSpells, RoundTrip, SampleWritten, SizeSame, SampleSized};
 ghost use Rattle.shape_laws.specs.Soundness.{Cross, CrossSample, CrossTail, CrossInner, CrossKey, ProjectionTyped};
 ghost use Rattle.shape_laws.specs.Verdicts.{Equivalent, Judged, JudgedNested, ExactlyOne};
 
@@ -72,6 +72,11 @@ pub fn projection_typed()
 /// What spells a value of a type is read by that type as the value.
 pub fn self_read()
     ensures { SelfRead }
+{}
+
+/// A value's projection onto its own type is the value.
+pub fn self_projected()
+    ensures { SelfProjected }
 {}
 
 /// The fixed spelling is a spelling.
