@@ -1,12 +1,16 @@
 //! Pushes to the service itself.
+ghost use Rattle.std.specs.Prelude.{IfSome};
 ghost use Rattle.type_mirror.specs.told.Pushes.{MayPush};
 
 use crate::objects::{COLOR, alone, named, object};
+use crate::registries::is_found;
 use lookup_service::link::LoopLink;
 use std::alloc::Global;
 use std::test::Fail;
+use tool_nets::clients::objects_of;
 use type_lookup::messages::Fetched;
 use type_mirror::{Gave, Give, Pair, PushFault, Side, Told, What, push};
+use type_object::Pool;
 use type_registry::{Md5Naming, Naming, Registry};
 use xt_io::Link;
 use xt_lists::{OutOfMemory, Row, Text};
@@ -58,7 +62,23 @@ pub(crate) fn tells(
     }
 }
 
-// Each of two registries has one object of its own, and each object is pushed to the other one; then both know both.
+// Two objects that may be pushed together, where both texts are objects'.
+fn both(alloc: Global, first: &[u8], second: &[u8]) -> Option<Row<Fetched>>
+    ensures { IfSome result (MayPush ⟦<Md5Naming as Naming>⟧.name) }
+{
+    let mut pool = Pool::new(alloc);
+    let _first = pool.add(first).ok()?;
+    let _second = pool.add(second).ok()?;
+    objects_of(alloc, &pool).ok()
+}
+
+// Whether each of the two objects is found in the registry.
+fn has_both(registry: &Registry<Md5Naming>, alloc: Global) -> bool {
+    is_found(registry, alloc, &COLOR) && is_found(registry, alloc, &object(1))
+}
+
+// Each of two registries has one object of its own, and each object is pushed to the other one. Then each registry's objects are pushed
+// once more, both ways: all four are known.
 #[test]
 fn registries_are_made_equal(rt: HostRuntime) -> Result<(), Fail> {
     let alloc = rt.alloc();
@@ -68,7 +88,10 @@ fn registries_are_made_equal(rt: HostRuntime) -> Result<(), Fail> {
     let other = alone::<Md5Naming>(alloc, &object(1)).expect(&rt, "an object");
     assert!(rt; tells(&a, alloc, &color, b"added ") && tells(&b, alloc, &other, b"added "));
     assert!(rt; tells(&b, alloc, &color, b"added ") && tells(&a, alloc, &other, b"added "));
-    assert!(rt; tells(&b, alloc, &color, b"known ") && tells(&a, alloc, &other, b"known "));
+    let objects = both(alloc, &COLOR, &object(1)).expect(&rt, "objects");
+    assert!(rt; tells(&b, alloc, &objects, b"known known "));
+    assert!(rt; tells(&a, alloc, &objects, b"known known "));
+    assert!(rt; has_both(&a, alloc) && has_both(&b, alloc));
     Ok(())
 }
 

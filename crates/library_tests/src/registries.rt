@@ -3,9 +3,12 @@ ghost use Rattle.std.specs.Prelude.{◌≡◌, All, IfOk};
 
 use crate::namings::{Alike, LastSix};
 use crate::objects::{COLOR, object};
+use object_formats::ObjectRule;
 use std::alloc::Global;
 use std::thread;
-use type_registry::{Finding, Kept, Md5Naming, Naming, Pass, RegisterFault, Registry, agree};
+use type_registry::{
+    Finding, Kept, Md5Naming, Naming, ObjectFault, Pass, RegisterFault, Registry, agree,
+};
 use type_trees::HashId;
 use xt_lists::OutOfMemory;
 
@@ -144,7 +147,25 @@ fn another_pass_finds_what_the_first_registered(rt: HostRuntime) {
     assert!(rt; finds(&registry, &second, &found));
 }
 
-/// Registers twenty objects, in one order or the other.
+#[test]
+fn a_text_that_is_cut_is_no_object(rt: HostRuntime) {
+    let registry: Registry<Md5Naming> = Registry::new(rt.alloc());
+    let mut pass = registry.pass(rt.alloc());
+    let cut = &COLOR[..38];
+    match registry.register(rt.alloc(), &mut pass, cut) {
+        Err(RegisterFault::NotAnObject(ObjectFault::Not { at, rule })) => {
+            assert!(rt; at == 35 && rule == ObjectRule::Short);
+        }
+        _ => panic!(rt; "taken for an object"),
+    }
+    assert!(rt; registry.find(&pass, &id_of::<Md5Naming>(cut)).is_none());
+    assert!(rt; !is_found(&registry, rt.alloc(), cut));
+}
+
+// How many objects each of two threads registers.
+const OBJECTS: u8 = 100;
+
+/// Registers a hundred objects, in one order or the other.
 fn register_all<'r, N: Naming>(
     registry: &'r Registry<N>,
     alloc: Global,
@@ -154,8 +175,8 @@ fn register_all<'r, N: Naming>(
 {
     let mut pass = registry.pass(alloc);
     let mut found = Vec::new(alloc);
-    for i in 0..20u8 {
-        let last = if down { 19 - i } else { i };
+    for i in 0..OBJECTS {
+        let last = if down { OBJECTS - 1 - i } else { i };
         let finding = finding_of(registry, alloc, &mut pass, &object(last))?;
         found.push(finding)?;
     }
@@ -163,7 +184,7 @@ fn register_all<'r, N: Naming>(
 }
 
 /// Whether a pass that knew nothing finds the object.
-fn is_found<N: Naming>(registry: &Registry<N>, alloc: Global, octets: &[u8]) -> bool {
+pub(crate) fn is_found<N: Naming>(registry: &Registry<N>, alloc: Global, octets: &[u8]) -> bool {
     let pass = registry.pass(alloc);
     match registry.find(&pass, &id_of::<N>(octets)) {
         Some(finding) => finding.octets() == octets,
@@ -187,9 +208,9 @@ fn threads_agree_on_each_object(rt: HostRuntime) {
     );
     match (up, down) {
         (Ok(up), Ok(down)) => {
-            assert!(rt; up.len() == 20 && down.len() == 20);
-            for i in 0..20usize {
-                let (a, b) = (&up[i], &down[19 - i]);
+            assert!(rt; up.len() == 100 && down.len() == 100);
+            for i in 0..100usize {
+                let (a, b) = (&up[i], &down[99 - i]);
                 assert!(rt; agree(a, b) && a.octets() == b.octets());
                 assert!(rt; is_found(&registry, alloc, a.octets()));
             }

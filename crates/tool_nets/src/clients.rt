@@ -5,4 +5,4 @@ mod mirroring;
 mod saying;
 
 pub use fetching::fetch_from;
-pub use mirroring::{mirror_objects, mirror_to};
+pub use mirroring::{mirror_objects, mirror_to, objects_of};

@@ -199,8 +199,8 @@ fn mirror_pool<K: Sink, N: Net>(
     }
 }
 
-// The objects of a pool, in order.
-fn objects_of(alloc: Global, pool: &Pool) -> Result<Row<Fetched>, OutOfMemory>
+/// The objects of a pool, in order, which may be pushed.
+pub fn objects_of(alloc: Global, pool: &Pool) -> Result<Row<Fetched>, OutOfMemory>
     ensures objects { IfOk result (λ objects. objects ≡ objects_in pool.now) }
     ensures may_push { IfOk result (MayPush hash_of) }
 {
