@@ -29,6 +29,22 @@ abbrev pub status_of : Ending → Status
 status_of endings.Done = Done
 status_of (endings.Refused cause) = status_of_cause cause
 
+-- The status of what asks nothing over a net, of which none fails: want of memory would be told in its place.
+abbrev pub without_net : Status → Status
+without_net Done = Done
+without_net No = No
+without_net Words = Words
+without_net Bundle = Bundle
+without_net ReadFault = ReadFault
+without_net WriteFault = WriteFault
+without_net OutOfMemory = OutOfMemory
+without_net Types = Types
+without_net NoName = NoName
+without_net NetFault = OutOfMemory
+without_net Json = Json
+without_net Fetch = Fetch
+without_net Limit = Limit
+
 -- The output was written whole, and the status is its.
 pub record Whole (output : Output) (status : Status) (old new : Option (List ℕ)) : Type 0 where
   pub ended : status ≡ status_of output.ending

@@ -10,7 +10,7 @@ ghost use Rattle.xt_tool.specs.Output.{TakesInput, style_asked, unread_output};
 ghost use Rattle.xt_tool.specs.Statuses.{AnswersAlone, WritesUnread};
 
 use crate::run::run;
-use crate::status::{Status, status_of};
+use crate::status::{Status, status_of, without_net};
 use std::alloc::Global;
 use tool_runs::output::{Halt, Style};
 use tool_words::{Command, command_of};
@@ -47,9 +47,9 @@ pub(crate) fn read_fault(style: Style) -> &'static [u8]
     }
 }
 
-/// Does what the words ask of nobody else, and answers the status.
+// The same, with the status that the run's ending tells.
 #[tactic(auto, using(crate::proofs::Tops::ends, crate::proofs::Tops::halts_in, crate::proofs::Tops::wants_in, crate::proofs::Tops::tells))]
-pub(crate) fn answer_alone<S: Source, K: Sink>(
+fn answer_told<S: Source, K: Sink>(
     alloc: Global,
     words: &[Word],
     input: &mut S,
@@ -73,4 +73,23 @@ pub(crate) fn answer_alone<S: Source, K: Sink>(
         Err(Halt::WriteFault) => Status::WriteFault,
         Err(Halt::OutOfMemory) => Status::OutOfMemory,
     }
+}
+
+/// Does what the words ask of nobody else, and answers the status.
+#[tactic(auto, using(crate::proofs::Tops::alone, crate::proofs::Tops::alone_unread))]
+pub(crate) fn answer_alone<S: Source, K: Sink>(
+    alloc: Global,
+    words: &[Word],
+    input: &mut S,
+    output: &mut K,
+) -> Status
+    ensures output { AnswersAlone words.now (S.left input.old) result (S.faults input.old) (S.faults input.new) (K.taken output.old) (K.taken output.new) }
+    ensures ended { result ≡ Status.Done → IfSome (spec.command_of words.now) TakesInput → IsAtEnd (S.left input.new) }
+    ensures unread { WritesUnread (unread_output (spec.command_of words.now)) result (K.taken output.old) (K.taken output.new) }
+    ensures left { IsSome (unread_output (spec.command_of words.now)) → (S.left input.new ≡ S.left input.old) × (S.faults input.new ≡ S.faults input.old) }
+    ensures read { result ≡ Status.ReadFault → Rose (S.faults input.old) (S.faults input.new) }
+    ensures write { result ≡ Status.WriteFault → Rose (K.faults output.old) (K.faults output.new) }
+    ensures net_fault { result ≡ Status.NetFault → ⊥ }
+{
+    without_net(answer_told(alloc, words, input, output))
 }

@@ -1,4 +1,4 @@
-ghost use Rattle.std.specs.Prelude.{◌≡◌, None, IfSome};
+ghost use Rattle.std.specs.Prelude.{◌≡◌, None};
 ghost use Rattle.std.specs.Io.KnownBytes.{IsAtEnd};
 ghost use Rattle.xt_io.specs.Outside.{Rose};
 ghost use Rattle.tool_nets.specs.Nets.{net_of};
@@ -52,7 +52,7 @@ pub fn xt<R: Threads + Sync, S: Source, K: Sink, N: Net>(
     // A fault is answered only where the count rose.
     ensures read { result ≡ Status.ReadFault → Rose (S.faults input.old) (S.faults input.new) }
     ensures write { result ≡ Status.WriteFault → Rose (K.faults output.old) (K.faults output.new) }
-    ensures net_fault { IfSome (net_command_of words.now) (λ asked. result ≡ Status.NetFault → Rose (N.faults net.old) (N.faults net.new)) }
+    ensures net_fault { result ≡ Status.NetFault → Rose (N.faults net.old) (N.faults net.new) }
 {
     headline();
     refused();
