@@ -140,7 +140,7 @@ impl Outside {
         }
     }
 
-    /// The net, with links that are so.
+    /// The net, with links that are so. A client that connects once more finds the same peer again.
     pub fn net(&self, alloc: Global, links: Links) -> Result<MemNet, OutOfMemory> {
         let mut doors = Row::new(alloc);
         for door in self.doors.as_slice() {
@@ -151,7 +151,11 @@ impl Outside {
             None => None,
         };
         let fails = list_of(alloc, &[self.fails])?;
-        Ok(MemNet::new(alloc, doors, link, fails))
+        let mut net = MemNet::new(alloc, doors, link, fails);
+        if let Some(peer) = &self.link {
+            net.add_link(peer.script(alloc, links)?)?;
+        }
+        Ok(net)
     }
 }
 

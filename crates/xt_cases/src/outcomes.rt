@@ -12,12 +12,13 @@ const MOST_TOLD: usize = 160;
 const MOST_BEFORE: usize = 60;
 
 /// How a run ends: its output and its exit status, and where it is told, what the client's link took, and what each link of a door took,
-/// door by door.
+/// door by door. A client connects once at most, whatever comes.
 #[derive(Drop)]
 pub struct Outcome {
     pub output: Text,
     pub sent: Option<Text>,
     pub held: Row<Text>,
+    pub connections: u64,
     pub status: u8,
 }
 
@@ -34,6 +35,7 @@ impl Outcome {
             output: Text::new(alloc),
             sent: None,
             held: Row::new(alloc),
+            connections: 0,
             status: 0,
         }
     }
@@ -75,6 +77,9 @@ impl Outcome {
 
     /// How the outcome that came differs from this one, which is wanted.
     pub fn difference(&self, alloc: Global, came: &Outcome) -> Result<Option<Difference>, Trouble> {
+        if came.connections > 1 {
+            return Ok(Some(other_connections(alloc, came.connections)?));
+        }
         if self.status != came.status || self.output.octets() != came.output.octets() {
             return Ok(Some(self.other_output(alloc, came)?));
         }
@@ -98,6 +103,13 @@ impl Outcome {
             came: format!(in alloc; "status {}, {other}", came.status)?,
         })
     }
+}
+
+fn other_connections(alloc: Global, came: u64) -> Result<Difference, Trouble> {
+    Ok(Difference {
+        wanted: String::from_str(alloc, "one connection at most")?,
+        came: format!(in alloc; "{came}")?,
+    })
 }
 
 fn other_sent(

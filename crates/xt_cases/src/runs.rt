@@ -145,6 +145,7 @@ impl<'c> Run<'c> {
             output: Text::from_octets(alloc, output.octets())?,
             sent: sent_over(alloc, &net)?,
             held: held_by(alloc, &net)?,
+            connections: net.connections(),
             status,
         };
         let came_about = self.came_about(&input, &output, &net);

@@ -40,6 +40,14 @@ net_doors net = net.doors
 abbrev pub net_link : MemNet → Option Script
 net_link net = net.link
 
+-- what further links are made of
+abbrev pub net_more : MemNet → List Script
+net_more net = net.more
+
+-- how many links were given
+abbrev pub net_connections : MemNet → ℕ
+net_connections net = net.connections
+
 abbrev pub net_fails : MemNet → List ℕ
 net_fails net = net.fails
 

@@ -9,7 +9,7 @@ use crate::links::{Door, Link, Net, NetFault};
 use crate::memory_links::{MemLink, Script};
 use std::alloc::Global;
 use std::mem;
-use xt_lists::{Row, Text, Word};
+use xt_lists::{OutOfMemory, Row, Text, Word};
 
 /// One link of a door in memory: still to come, out, or given back.
 #[derive(Debug, Drop)]
@@ -111,13 +111,15 @@ impl Door for MemDoor {
     }
 }
 
-/// A net in memory: its doors, and what its one link is made of. It fails at the calls of `doors` and `connect` that are
-/// listed, of which the first has the number 1, where it has another number of doors or one that was used, and where
-/// its link is gone. A refused call leaves its doors and its link.
+/// A net in memory: its doors, and what its links are made of, of which one is given for each connection. It fails at the calls of
+/// `doors` and `connect` that are listed, of which the first has the number 1, where it has another number of doors or one that was
+/// used, and where no link is left. A refused call leaves its doors and its links.
 #[derive(Debug, Drop)]
 pub struct MemNet {
     doors: Row<MemDoor>,
     link: Option<Script>,
+    more: Row<Script>,
+    connections: u64,
     fails: Row<u64>,
     tally: Tally,
     address: Text,
@@ -126,12 +128,15 @@ pub struct MemNet {
 }
 
 impl MemNet {
-    ghost use Rattle.xt_outside.specs.MemoryDoors.{net_doors, net_link, net_fails, net_faults, net_address, net_held, net_heard};
+    ghost use Rattle.xt_outside.specs.MemoryDoors.{net_doors, net_link, net_more, net_connections, net_fails, net_faults, net_address, net_held, net_heard};
+    ghost use Rattle.std.specs.Prelude.{◌∷◌, ◌++◌, OnOk, OnErr};
 
     /// It takes no memory.
     pub fn new(alloc: Global, doors: Row<MemDoor>, link: Option<Script>, fails: Row<u64>) -> MemNet
         ensures doors { net_doors result ≡ doors }
         ensures link { net_link result ≡ link }
+        ensures more { net_more result ≡ [] }
+        ensures connections { net_connections result ≡ 0 }
         ensures fails { net_fails result ≡ fails }
         ensures faults { net_faults result ≡ 0 }
         ensures address { net_address result ≡ [] }
@@ -141,12 +146,29 @@ impl MemNet {
         MemNet {
             doors,
             link,
+            more: Row::new(alloc),
+            connections: 0,
             fails,
             tally: Tally::new(),
             address: Text::new(alloc),
             held: Row::new(alloc),
             heard: None,
         }
+    }
+
+    /// Has one more link to give, behind the first: of these, the last comes first.
+    pub fn add_link(&mut self, script: Script) -> Result<(), OutOfMemory>
+        ensures added { OnOk result (self.new ≡ record self.old { more = self.old.more ++ script ∷ [] }) }
+        ensures refused { OnErr result (self.new ≡ self.old) }
+    {
+        self.more.push(script)
+    }
+
+    /// How many links were given for connections.
+    pub fn connections(&self) -> u64
+        ensures { result ≡ net_connections self.now }
+    {
+        self.connections
     }
 
     /// The doors that were given back.
@@ -201,9 +223,10 @@ impl Net for MemNet {
     fn connect(&mut self, alloc: Global, to: &Word) -> Result<MemLink, NetFault> {
         self.tally.call(self.fails.as_slice())?;
         let address = Text::from_octets(alloc, to.octets())?;
-        let Some(script) = self.link.take() else {
+        let Some(script) = next_script(&mut self.link, &mut self.more) else {
             return Err(self.tally.fail().into());
         };
+        self.connections = self.connections.saturating_add(1);
         self.address = address;
         Ok(MemLink::new(alloc, script))
     }
@@ -220,6 +243,14 @@ impl Net for MemNet {
     fn end_link(&mut self, link: MemLink) {
         self.tally.faults = raised_where(self.tally.faults, link.faults() > 0);
         self.heard = Some(link);
+    }
+}
+
+// What the next link is made of.
+fn next_script(first: &mut Option<Script>, more: &mut Row<Script>) -> Option<Script> {
+    match first.take() {
+        Some(script) => Some(script),
+        None => more.pop(),
     }
 }
 
