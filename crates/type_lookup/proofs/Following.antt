@@ -119,6 +119,6 @@ front_is g h (Some all) (Some rest) (Err Truncated) p =
     let same : all ≡ p.0 = some-same all (p.0 ++ rest) p.1.1 ∙ ap (λ r. p.0 ++ r) none ∙ append-nil p.0 in
     ap front same ∙ p.2.0
 front_is g h (Some all) None (Err (TooLong n)) p = absurd (no-untold all p.0 p.1.1)
-front_is g h (Some all) (Some rest) (Err (TooLong n)) p = whole-front p.0 all rest (broken (TooLong n)) p.1.1 p.2 tt
+front_is g h (Some all) (Some rest) (Err (TooLong n)) p = whole-front p.0 all rest (broken (TooLong n)) p.1.1 p.2.0 tt
 front_is g h (Some all) None (Err (BadMessage at)) p = absurd (no-untold all p.0 p.1.1)
-front_is g h (Some all) (Some rest) (Err (BadMessage at)) p = whole-front p.0 all rest (broken (BadMessage at)) p.1.1 p.2 tt
+front_is g h (Some all) (Some rest) (Err (BadMessage at)) p = whole-front p.0 all rest (broken (BadMessage at)) p.1.1 p.2.0 tt

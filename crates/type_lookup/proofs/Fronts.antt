@@ -1,5 +1,5 @@
 -- From the octets that were read to the frame at their front.
-use Rattle.std.proofs.Common.{◌≡◌, ◌≢◌, ap₂, ℕ, ◌≤◌, ◌<◌, List, [], ◌∷◌, ◌++◌, sym, ap, ◌∙◌, length, take, drop, append-nil, length-append, arith, Option, Err}
+use Rattle.std.proofs.Common.{◌≡◌, ◌≢◌, ap₂, ℕ, ◌+◌, ◌≤◌, ◌<◌, List, [], ◌∷◌, ◌++◌, sym, ap, ◌∙◌, length, take, drop, take_all, append-nil, length-append, arith, Option, Err}
 use Rattle.std.proofs.lemmas.List.{take_at, drop_at}
 use Rattle.std.proofs.lemmas.Grind.{common_steps}
 use Rattle.std.specs.Int.{w32, from_be_bytes, to_be_bytes}
@@ -58,6 +58,17 @@ pub front-filled : (head tail : List ℕ) (n : ℕ) → length head ≡ 4 → n 
 front-filled head tail n four e some le full =
     front-head head tail four ∙ ap (λ k. sized k tail) (sym e) ∙ sized-filled n tail some le full
     ∙ ap (λ t. filled n (payload t) (drop n tail)) (take-whole n tail full) ∙ ap (filled n (payload tail)) (drop-whole n tail full)
+
+-- the octets of a length of 0, and of a length and its payload, end where they say
+pub ends-zero : (head : List ℕ) (n : ℕ) → length head ≡ 4 → n ≡ from_be_bytes w32 head → n ≡ 0 → length head ≡ 4 + from_be_bytes w32 (take 4 head)
+ends-zero head n four e none =
+    let size : from_be_bytes w32 (take 4 head) ≡ 0 = ap (from_be_bytes w32) (take_all 4 head (omega (arith, four))) ∙ sym e ∙ none in
+    omega (arith, four, size)
+
+pub ends-filled : (head tail : List ℕ) (n : ℕ) → length head ≡ 4 → n ≡ from_be_bytes w32 head → length tail ≡ n → length (head ++ tail) ≡ 4 + from_be_bytes w32 (take 4 (head ++ tail))
+ends-filled head tail n four e full =
+    let size : from_be_bytes w32 (take 4 (head ++ tail)) ≡ n = ap (from_be_bytes w32) (take_at head tail 4 four) ∙ sym e in
+    omega (arith, length-append head tail, four, full, size)
 
 -- what was read as a message is its frame
 pub frame_spelling : (head text payload : List ℕ) (n : ℕ) → to_be_bytes w32 n ≡ head → length text ≡ n → text ≡ payload → head ++ text ≡ to_be_bytes w32 (length payload) ++ payload

@@ -1,5 +1,5 @@
 -- Frames: a length as a 32-bit number in big-endian order, and a payload of so many octets. They are this profile's own.
-use Rattle.std.specs.Prelude.{◌≡◌, ℕ, zero, suc, ◌-◌, ◌==◌, nat_lt, if◌then◌else◌, List, [], ◌∷◌, length, take, drop, Option, Some, None, Result, Ok, Err}
+use Rattle.std.specs.Prelude.{◌≡◌, ℕ, zero, suc, ◌+◌, ◌-◌, ◌==◌, nat_lt, if◌then◌else◌, List, [], ◌∷◌, length, take, drop, Option, Some, None, Result, Ok, Err}
 use Rattle.std.specs.Int.{w32, from_be_bytes}
 use Rattle.std.specs.Io.KnownBytes.{append_known, prepend_known, IsAtEnd}
 use Rattle.type_lookup.specs.declared.messages.messages.Message.{Message}
@@ -53,17 +53,26 @@ frames octets = frames_within (length octets) octets
 abbrev pub Took : Option (List ℕ) → Option (List ℕ) → Option (List ℕ) → Option (List ℕ) → List ℕ → Type 0
 Took got_before got_now left_before left_now octets = (got_now ≡ append_known got_before octets) × (left_before ≡ prepend_known octets left_now)
 
+-- The octets end where a frame's fault shows, and none was read behind it: a length that is too long ends them, and a payload that is no message
+-- does.
+abbrev pub EndsThere : FrameFault → List ℕ → Type 0
+EndsThere LinkFault octets = Unit {0}
+EndsThere Truncated octets = Unit {0}
+EndsThere (TooLong n) octets = length octets ≡ 4
+EndsThere (BadMessage at) octets = length octets ≡ 4 + from_be_bytes w32 (take 4 octets)
+EndsThere OutOfMemory octets = Unit {0}
+
 -- What reading a frame answers where these octets were read and those are left.
 abbrev pub Answers : List ℕ → Option (List ℕ) → Result (Option Message) FrameFault → Type 0
 Answers octets left (Ok None) = (octets ≡ []) × IsAtEnd left
 Answers octets left (Ok (Some message)) = (front octets ≡ framed message []) × (octets ≡ frame_of message)
 Answers octets left (Err LinkFault) = Unit {0}
 Answers octets left (Err Truncated) = (front octets ≡ broken Truncated) × IsAtEnd left
-Answers octets left (Err (TooLong n)) = front octets ≡ broken (TooLong n)
-Answers octets left (Err (BadMessage at)) = front octets ≡ broken (BadMessage at)
+Answers octets left (Err (TooLong n)) = (front octets ≡ broken (TooLong n)) × EndsThere (TooLong n) octets
+Answers octets left (Err (BadMessage at)) = (front octets ≡ broken (BadMessage at)) × EndsThere (BadMessage at) octets
 Answers octets left (Err OutOfMemory) = Unit {0}
 
--- Reading a frame from a link: the octets that were read are a frame, or the first bad one. After a fault of the link or of the memory some octets
+-- Reading a frame from a link: the octets that were read are a frame, or the first bad one up to where its fault shows, and no others. After a fault of the link or of the memory some octets
 -- were read, and nothing is said of what they are.
 abbrev pub ReadsFrame : Option (List ℕ) → Option (List ℕ) → Option (List ℕ) → Option (List ℕ) → Result (Option Message) FrameFault → Type 0
 ReadsFrame got_before got_now left_before left_now result = (octets : List ℕ) × Took got_before got_now left_before left_now octets × Answers octets left_now result

@@ -20,9 +20,10 @@ const MOST_PAYLOAD: u32 = 262_144;
 
 /// The next message; None where the peer ended between two frames. A frame is the payload's length, a 32-bit number in big-endian
 /// order from 1 to 262,144, and the payload. After a fault the link is not used again: Truncated, TooLong and BadMessage say what
-/// is wrong with the frame, LinkFault comes only where the link's count of faults rose.
+/// is wrong with the frame, and nothing is read behind it; LinkFault comes only where the link's count of faults rose.
 pub fn read_frame<L: Link>(alloc: Global, link: &mut L) -> Result<Option<Message>, FrameFault>
-    // The octets that were read are a frame or the first bad one; after a fault of the link or of the memory, some octets.
+    // The octets that were read are a frame or the first bad one, up to where its fault shows; after a fault of the link or of the memory,
+    // some octets.
     ensures octets { ReadsFrame (L.got link.old) (L.got link.new) (L.left link.old) (L.left link.new) result }
 
     // So it stands at the front of all that the link had left.

@@ -6,7 +6,7 @@ use Rattle.type_lookup.specs.Frames.{Took, broken, filled}
 use Rattle.type_lookup.specs.declared.faults.FrameFault.TheVariants.{BadMessage}
 use Rattle.type_lookup.proofs.Taking.{took-more}
 use Rattle.std.proofs.lemmas.Result.{err_from_is_err_and}
-use Rattle.type_lookup.proofs.Fronts.{outside-answers, front-cut, front-zero, front-long, front-short, front-filled, frame_spelling}
+use Rattle.type_lookup.proofs.Fronts.{outside-answers, front-cut, front-zero, front-long, front-short, front-filled, ends-zero, ends-filled, frame_spelling}
 use Rattle.type_lookup.proofs.frame.take_frame.Goals as goal
 
 pub returns-then-count-lt4-clause-octets : goal.returns-then-count-lt4-clause-octets
@@ -21,14 +21,14 @@ returns-then-length-eq0-clause-octets g c =
     let room : length c.fill.new.into ≡ 4 = search rules in
     let all : take c.in_ok-count.count c.fill.new.into ≡ c.fill.new.into = take_all _ _ (omega (arith, room, c.if-count-lt4.false)) in
     let head = subst (Took _ _ _ _) all c.in_ok-count.ensures.octets in
-    (c.fill.new.into, head, front-zero c.fill.new.into _ room c.length_of-length.ensures.number c.if-length-eq0.true)
+    (c.fill.new.into, head, (front-zero c.fill.new.into _ room c.length_of-length.ensures.number c.if-length-eq0.true, ends-zero c.fill.new.into _ room c.length_of-length.ensures.number c.if-length-eq0.true))
 
 pub returns-then-length-gt-MOST_PAYLOAD-clause-octets : goal.returns-then-length-gt-MOST_PAYLOAD-clause-octets
 returns-then-length-gt-MOST_PAYLOAD-clause-octets g c =
     let room : length c.fill.new.into ≡ 4 = search rules in
     let all : take c.in_ok-count.count c.fill.new.into ≡ c.fill.new.into = take_all _ _ (omega (arith, room, c.if-count-lt4.false)) in
     let head = subst (Took _ _ _ _) all c.in_ok-count.ensures.octets in
-    (c.fill.new.into, head, front-long c.fill.new.into _ room c.length_of-length.ensures.number (search rules))
+    (c.fill.new.into, head, (front-long c.fill.new.into _ room c.length_of-length.ensures.number (search rules), room))
 
 pub returns-then-len-length-clause-octets : goal.returns-then-len-length-clause-octets
 returns-then-len-length-clause-octets g c =
@@ -63,7 +63,7 @@ returns-in-Err-BadField-clause-octets g c =
     let stopped : payload c.octets-2.result.now ≡ bad c.in-Err-BadField.left = rw c.in-Err-BadField.field-0-is at c.in-Err-BadField.ensures.read in
     let read = ap (λ (t : List ℕ). filled n (payload t) []) (sym c.octets-2.ensures) ∙ ap (λ f. filled n f []) stopped in
     let at : n - c.in-Err-BadField.left ≡ c.saturating_sub.result = search rules in
-    (c.fill.new.into ++ text, took-more _ _ _ _ _ _ _ _ head c.in_ok-octets.ensures.octets, front-filled c.fill.new.into text n room c.length_of-length.ensures.number c.if-length-eq0.false (search rules) full ∙ read ∙ ap (λ k. broken (BadMessage k)) at)
+    (c.fill.new.into ++ text, took-more _ _ _ _ _ _ _ _ head c.in_ok-octets.ensures.octets, (front-filled c.fill.new.into text n room c.length_of-length.ensures.number c.if-length-eq0.false (search rules) full ∙ read ∙ ap (λ k. broken (BadMessage k)) at, ends-filled c.fill.new.into text n room c.length_of-length.ensures.number full))
 
 pub returns-in_err-octets-clause-octets : goal.returns-in_err-octets-clause-octets
 returns-in_err-octets-clause-octets g c =
