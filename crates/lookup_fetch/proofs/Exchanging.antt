@@ -12,7 +12,7 @@ use Rattle.type_lookup.proofs.Taking.{took-none, appended-none}
 use Rattle.lookup_fetch.specs.declared.faults.FetchFault.{FetchFault}
 use Rattle.lookup_fetch.specs.declared.faults.FetchFault.TheVariants.{LinkFault, BadReply, OutOfMemory}
 use Rattle.lookup_fetch.specs.FrameFaults.{fault_by}
-use Rattle.lookup_fetch.specs.Fetches.{IsPrefix, IsNoFrame, Passed}
+use Rattle.lookup_fetch.specs.Fetches.{IsPrefix, IsNoFront, Passed}
 use Rattle.lookup_fetch.specs.Steps.{Exchanges, ExchangesOver}
 
 front-of-none : front [] ≡ no_frame
@@ -41,9 +41,9 @@ not_sent request g h l m t u fault same_got same_left p outside = record {
 -- the request was sent, and what was read is no frame
 unread : (request : Message) (octets : List ℕ) (left : Option (List ℕ)) (fault : FrameFault) → Answers octets left (Err fault) → Exchanges request octets (frame_of request) left (Err (fault_by fault))
 unread request octets left frame.LinkFault h = all_sent (frame_of request)
-unread request octets left frame.Truncated h = (refl, subst (λ (f : Front). IsNoFrame f (IsAtEnd left)) (sym h.0) h.1)
-unread request octets left (frame.TooLong n) h = (refl, subst (λ (f : Front). IsNoFrame f (IsAtEnd left)) (sym h) tt)
-unread request octets left (frame.BadMessage at) h = (refl, subst (λ (f : Front). IsNoFrame f (IsAtEnd left)) (sym h) tt)
+unread request octets left frame.Truncated h = (refl, subst (λ (f : Front). IsNoFront octets f (IsAtEnd left)) (sym h.0) h.1)
+unread request octets left (frame.TooLong n) h = (refl, subst (λ (f : Front). IsNoFront octets f (IsAtEnd left)) (sym h.0) h.1)
+unread request octets left (frame.BadMessage at) h = (refl, subst (λ (f : Front). IsNoFront octets f (IsAtEnd left)) (sym h.0) h.1)
 unread request octets left frame.OutOfMemory h = all_sent (frame_of request)
 
 module _ (request : Message) (g g' h l l' m t u v : Option (List ℕ)) (same_got : g' ≡ g) (same_left : l' ≡ l) (whole : u ≡ append_known t (frame_of request)) (same_taken : v ≡ u) where
@@ -58,7 +58,7 @@ module _ (request : Message) (g g' h l l' m t u v : Option (List ℕ)) (same_got
     octets = p.0;
     sent = frame_of request;
     passed = both p.0 p.1;
-    exchanges = (refl, subst (λ (f : Front). IsNoFrame f (IsAtEnd m)) (sym (ap front p.2.0 ∙ front-of-none)) p.2.1);
+    exchanges = (refl, subst (λ (f : Front). IsNoFront p.0 f (IsAtEnd m)) (sym (ap front p.2.0 ∙ front-of-none)) p.2.1);
   }
 
   pub came : (reply : Message) → ReadsFrame g' h l' m (Ok (Some reply)) → ExchangesOver request g h l m t v (Ok reply)

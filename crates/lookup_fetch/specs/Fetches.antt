@@ -7,7 +7,7 @@ use Rattle.type_object.specs.Pools.{Texts}
 use Rattle.type_lookup.specs.declared.messages.messages.Fetched.{Fetched}
 use Rattle.type_lookup.specs.declared.messages.messages.Message.{Message}
 use Rattle.type_lookup.specs.declared.faults.FrameFault.TheVariants as frame
-use Rattle.type_lookup.specs.Frames.{Front, no_frame, framed, broken, front, Took}
+use Rattle.type_lookup.specs.Frames.{Front, no_frame, framed, broken, front, Took, EndsThere}
 use Rattle.type_lookup.specs.Sequences.{frames_of, AreFrames}
 use Rattle.lookup_fetch.specs.declared.faults.FetchFault.{FetchFault}
 use Rattle.lookup_fetch.specs.declared.faults.FetchFault.TheVariants.{LinkFault, BadReply, WrongHash, NotServed, TooMany, OutOfMemory}
@@ -16,22 +16,26 @@ use Rattle.lookup_fetch.specs.Rounds.{End, done, stopped, waits, Rounds, rounds,
 abbrev pub IsPrefix : List ℕ → List ℕ → Type 0
 IsPrefix some all = (rest : List ℕ) × (all ≡ some ++ rest)
 
--- No whole frame stands there: what is none, or the end of the input. It is nothing, or a cut frame, only where this holds, that the input
--- ended.
-abbrev pub IsNoFrame : Front → Type 0 → Type 0
-IsNoFrame no_frame at_end = at_end
-IsNoFrame (framed message rest) at_end = ⊥
-IsNoFrame (broken frame.LinkFault) at_end = ⊥
-IsNoFrame (broken frame.Truncated) at_end = at_end
-IsNoFrame (broken (frame.TooLong n)) at_end = Unit {0}
-IsNoFrame (broken (frame.BadMessage at)) at_end = Unit {0}
-IsNoFrame (broken frame.OutOfMemory) at_end = ⊥
+-- At the front of these octets stands no whole frame, and they end where its fault shows. It is nothing, or a cut frame, only where this holds, that
+-- the input ended.
+abbrev pub IsNoFront : List ℕ → Front → Type 0 → Type 0
+IsNoFront octets no_frame at_end = at_end
+IsNoFront octets (framed message rest) at_end = ⊥
+IsNoFront octets (broken frame.LinkFault) at_end = ⊥
+IsNoFront octets (broken frame.Truncated) at_end = at_end
+IsNoFront octets (broken (frame.TooLong n)) at_end = EndsThere (frame.TooLong n) octets
+IsNoFront octets (broken (frame.BadMessage at)) at_end = EndsThere (frame.BadMessage at) octets
+IsNoFront octets (broken frame.OutOfMemory) at_end = ⊥
+
+-- These octets are no whole frame: the end of the input, or a bad frame with nothing behind it.
+abbrev pub IsNoFrame : List ℕ → Type 0 → Type 0
+IsNoFrame octets at_end = IsNoFront octets (front octets) at_end
 
 -- a bad reply: the last message is none to the request, or what stands behind the messages is no frame
 abbrev pub IsBad : End → List ℕ → Option (List ℕ) → Type 0
 IsBad (done objects) behind left = ⊥
 IsBad (stopped fault) behind left = (fault ≡ BadReply) × (behind ≡ [])
-IsBad waits behind left = IsNoFrame (front behind) (IsAtEnd left)
+IsBad waits behind left = IsNoFrame behind (IsAtEnd left)
 
 -- All requests were sent, and nothing was read behind the messages that end the rounds so.
 pub record Ends (all : Rounds) (end : End) (sent behind : List ℕ) : Type 0 where

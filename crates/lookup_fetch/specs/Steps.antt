@@ -20,7 +20,7 @@ use Rattle.lookup_fetch.specs.Fetches.{IsPrefix, IsNoFrame, Fetches, Passed}
 abbrev pub Exchanges : Message → List ℕ → List ℕ → Option (List ℕ) → Result Message FetchFault → Type 0
 Exchanges request octets sent left (Ok reply) = (sent ≡ frame_of request) × (front octets ≡ framed reply [])
 Exchanges request octets sent left (Err LinkFault) = IsPrefix sent (frame_of request)
-Exchanges request octets sent left (Err BadReply) = (sent ≡ frame_of request) × IsNoFrame (front octets) (IsAtEnd left)
+Exchanges request octets sent left (Err BadReply) = (sent ≡ frame_of request) × IsNoFrame octets (IsAtEnd left)
 Exchanges request octets sent left (Err (WrongHash id other)) = ⊥
 Exchanges request octets sent left (Err (NotServed id)) = ⊥
 Exchanges request octets sent left (Err TooMany) = ⊥

@@ -6,7 +6,6 @@ use Rattle.type_object.specs.Names.{named_by}
 use Rattle.type_object.specs.Pools.{IsObject}
 use Rattle.type_lookup.specs.declared.messages.messages.Fetched.{Fetched}
 use Rattle.type_lookup.specs.declared.messages.messages.Message.{Message}
-use Rattle.type_lookup.specs.Frames.{front}
 use Rattle.type_lookup.specs.Sequences.{frames_of, AreFrames}
 use Rattle.lookup_fetch.specs.Fetches.{IsPrefix, IsNoFrame, Passed}
 use Rattle.type_mirror.specs.pairs.Pairs.{IsDistinct}
@@ -33,7 +32,7 @@ pub record MayPush (name : List ℕ → List ℕ) (objects : List Fetched) : Typ
 abbrev pub IsBad : End → List ℕ → Option (List ℕ) → Type 0
 IsBad (done told) behind left = ⊥
 IsBad bad behind left = behind ≡ []
-IsBad waits behind left = IsNoFrame (front behind) (IsAtEnd left)
+IsBad waits behind left = IsNoFrame behind (IsAtEnd left)
 
 -- All requests were sent, this is told, and nothing was read behind the messages that end the rounds so.
 pub record Ends (all : Rounds) (told : List Told) (sent behind : List ℕ) : Type 0 where
