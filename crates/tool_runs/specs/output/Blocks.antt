@@ -30,6 +30,10 @@ pub record HandsOn {T : Type 0} (result : Result T Halt) (old new : Option (List
   pub all : (IsErrOf result halts.WriteFault → ⊥) → Keeps (reached old before) (reached new now)
   pub none : IsErrOf result halts.WriteFault → now ≡ []
 
+-- What a turn writes goes into the block: the pieces up to what is then still to be written, whatever the sink took before.
+abbrev pub Gathers : {T : Type 0} → Style → Option Output → Option Output → Result T Stop → (before now : List ℕ) → Type 0
+Gathers style first rest result before now = (taken : Option (List ℕ)) → Steps style first rest result (reached taken before) (reached taken now)
+
 -- A sink in memory fails for want of it.
 abbrev pub memory_halt : Halt → Halt
 memory_halt halts.ReadFault = halts.ReadFault

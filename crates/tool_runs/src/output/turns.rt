@@ -225,7 +225,7 @@ fn gather_turn<T: Turns, S: Source>(
     block: &mut Block,
 ) -> (BundleReader<S>, Result<(), Stop>)
     requires { IsReady head reader }
-    ensures steps { (taken : Option (List ℕ)) → Steps T.style (option_map (T.to_write turns.old number) (coming (Record head) reader)) (option_map (T.to_write turns.new (number + 1)) result.0.ahead) result.1 (blocks.reached taken (blocks.held block.old)) (blocks.reached taken (blocks.held block.new)) }
+    ensures steps { blocks.Gathers T.style (option_map (T.to_write turns.old number) (coming (Record head) reader)) (option_map (T.to_write turns.new (number + 1)) result.0.ahead) result.1 (blocks.held block.old) (blocks.held block.new) }
     ensures on { OnOk result.1 (GoesOn reader result.0) }
     ensures stops { StopsReading reader.faults result.0.faults result.1 }
     ensures same { result.0.name ≡ reader.name }
