@@ -4,3 +4,4 @@ pub mod Listing
 pub mod StreamTexts
 pub mod Telling
 pub mod Kept
+pub mod Called

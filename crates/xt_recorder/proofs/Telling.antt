@@ -20,7 +20,7 @@ one_sample reader s st item assigned kind stream says =
     ∙ ap (λ (x : Option Stream). sample_taken reader s x item.payload) stream
     ∙ ap (λ (b : Bool). if b then Ok (sample_answer (read_sample st.rep (shape reader) item.payload), s) else Ok (nothing, s)) says
 
-abbrev more : Tree → List Item → State → Answers
+abbrev pub more : Tree → List Item → State → Answers
 more reader items s = replay_from reader s items
 
 next_item : (reader : Tree) (s : State) (item : Item) (items : List Item) (x : Answer) (xs : List Answer) → taken reader s item ≡ Ok (x, s) → replay_from reader s items ≡ (xs, None) → replay_from reader s (item ∷ items) ≡ (x ∷ xs, None)
@@ -29,7 +29,7 @@ next_item reader s item items x xs one rest =
     ap (λ (r : Step). and_then r (more reader items)) one
     ∙ ap (λ (r : Answers). let found : Answers = (x ∷ r.0, r.1) in found) rest
 
-no_item : (reader : Tree) (s : State) → replay_from reader s [] ≡ ([], None)
+pub no_item : (reader : Tree) (s : State) → replay_from reader s [] ≡ ([], None)
 unfolding replay_from
 no_item reader s = refl
 

@@ -1,5 +1,5 @@
 -- The laws of recordings (this profile's own).
-use Rattle.std.specs.Prelude.{◌≡◌, ℕ, List, [], ◌∷◌, map, length, true, false, Some, None}
+use Rattle.std.specs.Prelude.{◌≡◌, ℕ, List, [], ◌∷◌, ◌++◌, map, length, true, false, Option, Some, None, Ok, Err}
 use Rattle.xt_shapes.specs.declared.leaves.Rep.{Rep}
 use Rattle.xt_shapes.specs.Shape.{Shape}
 use Rattle.xt_shapes.specs.Vals.{Val}
@@ -8,6 +8,7 @@ use Rattle.type_trees.specs.Ids.{is_object_kind, id_octets}
 use Rattle.type_trees.specs.Trees.{Tree}
 use Rattle.type_trees.specs.Bridge.{shape}
 use Rattle.type_rules.specs.Valid.{type_fault}
+use Rattle.type_object.specs.Pools.{Texts}
 use Rattle.xt_io.specs.declared.Item.{Item}
 use Rattle.xt_io.specs.declared.Kind.TheVariants.{Sample}
 use Rattle.xcdr_model.specs.Assignable.{Assignable}
@@ -15,8 +16,12 @@ use Rattle.xcdr_model.specs.Policies.{standard}
 use Rattle.xcdr_model.specs.Samples.{projection}
 use Rattle.xcdr_model.specs.SampleSpelling.{IsSample}
 use Rattle.hex.specs.Hex.{IsBytes}
+use Rattle.xt_recorder.specs.declared.replayed.Replayed.{Replayed}
+use Rattle.xt_recorder.specs.declared.replayed.ReplayFault.{ReplayFault}
+use Rattle.xt_recorder.specs.declared.replayed.ReplayFault.TheVariants as faults
 use Rattle.xt_recorder.specs.Streams.{stream_text, stream_of}
-use Rattle.xt_recorder.specs.Replays.{State, Stream, nothing, reads, replay_from}
+use Rattle.xt_recorder.specs.Replays.{State, Stream, Answer, Answers, Refusal, nothing, reads, taken, replay_from, replay}
+use Rattle.xt_recorder.specs.Answers.{answer, Refuses}
 
 -- ---- streams
 
@@ -54,3 +59,25 @@ AreSamples (item ∷ items) = (item.kind ≡ Sample) × AreSamples items
 -- Of samples of a stream from whose type the reader's isn't assignable nothing is told.
 abbrev pub NoPassed : Type 0
 NoPassed = (reader : Tree) (s : State) (st : Stream) (items : List Item) → s.stream ≡ Some st → st.yes ≡ false → AreSamples items → replay_from reader s items ≡ (map (λ item. nothing) items, None)
+
+-- ---- calls of `take`
+
+-- What calls of `take` answered, a call for each record on what the one before it left. A fault ends them.
+abbrev pub Takes : Tree → State → List Item → List Replayed → Option ReplayFault → Type 0
+Takes reader s [] [] None = Unit {0}
+Takes reader s [] [] (Some fault) = ⊥
+Takes reader s [] (x ∷ xs) fault = ⊥
+Takes reader s (item ∷ items) [] None = ⊥
+Takes reader s (item ∷ items) [] (Some fault) = Refuses fault (taken reader s item)
+Takes reader s (item ∷ items) (x ∷ xs) fault = (next : State) × (taken reader s item ≡ Ok (answer x, next)) × Takes reader next items xs fault
+
+-- These answers are the whole replay; a fault behind them says why it ends there. Where memory was wanting they begin it.
+abbrev pub AreReplayed : List Answer → Option ReplayFault → Answers → Type 0
+AreReplayed xs None found = found ≡ (xs, None)
+AreReplayed xs (Some faults.OutOfMemory) found = (rest : Answers) × (found ≡ (xs ++ rest.0, rest.1))
+AreReplayed xs (Some fault) found = (refusal : Refusal) × Refuses fault (Err refusal) × (found ≡ (xs, Some refusal))
+
+-- What a new Replayer answers of records, up to the first fault, is their replay.
+abbrev pub TakesAreReplay : Type 0
+TakesAreReplay = (reader : Tree) (pool : Texts) (items : List Item) (xs : List Replayed) (fault : Option ReplayFault) → Takes reader (record { pool = pool; stream = None }) items xs fault
+    → AreReplayed (map answer xs) fault (replay reader pool items)

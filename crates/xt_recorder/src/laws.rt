@@ -25,3 +25,8 @@ pub fn samples_projected()
 pub fn no_passed()
     ensures { law.NoPassed }
 {}
+
+/// What a Replayer answers of records, call after call and up to the first fault, is their replay.
+pub fn takes_are_replay()
+    ensures { law.TakesAreReplay }
+{}
