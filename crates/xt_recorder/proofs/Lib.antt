@@ -5,3 +5,6 @@ pub mod StreamTexts
 pub mod Telling
 pub mod Kept
 pub mod Called
+pub mod Among
+pub mod Hanging
+pub mod Reached

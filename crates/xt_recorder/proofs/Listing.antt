@@ -22,7 +22,7 @@ next_level : (n : ℕ) (pool : Texts) (listed : List HashId) (id : HashId) → l
 unfolding listed_at
 next_level n pool listed id = refl
 
-levels : (n : ℕ) (pool : Texts) (listed : List HashId) (id : HashId) → n ≢ 0 → listed_at n pool listed id ≡ cond (is_among id listed) listed (note (each (listed_at (n - 1) pool) listed (referred (object_at id pool))) id)
+pub levels : (n : ℕ) (pool : Texts) (listed : List HashId) (id : HashId) → n ≢ 0 → listed_at n pool listed id ≡ cond (is_among id listed) listed (note (each (listed_at (n - 1) pool) listed (referred (object_at id pool))) id)
 levels n pool listed id some =
     let more : n ≡ suc (n - 1) = omega (arith, some) in
     ap (λ (k : ℕ). listed_at k pool listed id) more ∙ next_level (n - 1) pool listed id

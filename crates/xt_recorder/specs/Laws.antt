@@ -1,5 +1,5 @@
 -- The laws of recordings (this profile's own).
-use Rattle.std.specs.Prelude.{◌≡◌, ℕ, List, [], ◌∷◌, ◌++◌, map, length, true, false, Option, Some, None, Ok, Err}
+use Rattle.std.specs.Prelude.{◌≡◌, ◌↔◌, ℕ, ◌≤◌, List, [], ◌∷◌, ◌++◌, map, length, All, true, false, Option, Some, None, Ok, Err}
 use Rattle.xt_shapes.specs.declared.leaves.Rep.{Rep}
 use Rattle.xt_shapes.specs.Shape.{Shape}
 use Rattle.xt_shapes.specs.Vals.{Val}
@@ -8,7 +8,11 @@ use Rattle.type_trees.specs.Ids.{is_object_kind, id_octets}
 use Rattle.type_trees.specs.Trees.{Tree}
 use Rattle.type_trees.specs.Bridge.{shape}
 use Rattle.type_rules.specs.Valid.{type_fault}
-use Rattle.type_object.specs.Pools.{Texts}
+use Rattle.object_formats.specs.Objects.{Object}
+use Rattle.type_object.specs.Pools.{Texts, object_at}
+use Rattle.type_object.specs.References.{is_among, in_order}
+use Rattle.object_walks.specs.Resolving.{resolved}
+use Rattle.object_walks.specs.Laws.{IsReached}
 use Rattle.xt_io.specs.declared.Item.{Item}
 use Rattle.xt_io.specs.declared.Kind.TheVariants.{Sample}
 use Rattle.xcdr_model.specs.Assignable.{Assignable}
@@ -20,6 +24,7 @@ use Rattle.xt_recorder.specs.declared.replayed.Replayed.{Replayed}
 use Rattle.xt_recorder.specs.declared.replayed.ReplayFault.{ReplayFault}
 use Rattle.xt_recorder.specs.declared.replayed.ReplayFault.TheVariants as faults
 use Rattle.xt_recorder.specs.Streams.{stream_text, stream_of}
+use Rattle.xt_recorder.specs.Recordings.{listed_at, closed}
 use Rattle.xt_recorder.specs.Replays.{State, Stream, Answer, Answers, Refusal, nothing, reads, taken, replay_from, replay}
 use Rattle.xt_recorder.specs.Answers.{answer, Refuses}
 
@@ -81,3 +86,26 @@ AreReplayed xs (Some fault) found = (refusal : Refusal) × Refuses fault (Err re
 abbrev pub TakesAreReplay : Type 0
 TakesAreReplay = (reader : Tree) (pool : Texts) (items : List Item) (xs : List Replayed) (fault : Option ReplayFault) → Takes reader (record { pool = pool; stream = None }) items xs fault
     → AreReplayed (map answer xs) fault (replay reader pool items)
+
+-- ---- what a recording carries
+
+-- an identifier behind others: it is none of them, it has an object, and all in this are among them
+pub record IsBehind (pool : Texts) (before : List HashId) (id : HashId) : Type 0 where
+  pub new : is_among id before ≡ false
+  pub object : Object
+  pub there : object_at id pool ≡ Some object
+  pub parts : All (λ i. is_among i before ≡ true) (in_order object)
+
+abbrev pub AreBehind : Texts → List HashId → List HashId → Type 0
+AreBehind pool before [] = Unit {0}
+AreBehind pool before (id ∷ ids) = IsBehind pool before id × AreBehind pool (before ++ id ∷ []) ids
+
+-- What is listed is what is reached: each that is reached and no other, each once, and each behind all that its object refers to. With more
+-- levels no more would be listed.
+pub record ListsReached (pool : Texts) (id : HashId) : Type 0 where
+  pub reached : (i : HashId) → (is_among i (closed pool id) ≡ true) ↔ IsReached pool id i
+  pub ordered : AreBehind pool [] (closed pool id)
+  pub levels : (n : ℕ) → length pool ≤ n → listed_at n pool [] id ≡ closed pool id
+
+abbrev pub ClosedIsReached : Type 0
+ClosedIsReached = (pool : Texts) (id : HashId) (t : Tree) → resolved pool id ≡ Ok t → ListsReached pool id

@@ -30,3 +30,8 @@ pub fn no_passed()
 pub fn takes_are_replay()
     ensures { law.TakesAreReplay }
 {}
+
+/// What a recording of a type that resolves carries is what is reached from its identifier: each once, behind what it refers to.
+pub fn closed_is_reached()
+    ensures { law.ClosedIsReached }
+{}
