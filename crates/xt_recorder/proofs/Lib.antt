@@ -8,3 +8,7 @@ pub mod Called
 pub mod Among
 pub mod Hanging
 pub mod Reached
+pub mod Agreeing
+pub mod Loading
+pub mod Printed
+pub mod Recorded

@@ -1,5 +1,5 @@
 -- The laws of recordings (this profile's own).
-use Rattle.std.specs.Prelude.{◌≡◌, ◌↔◌, ℕ, ◌≤◌, List, [], ◌∷◌, ◌++◌, map, length, All, true, false, Option, Some, None, Ok, Err}
+use Rattle.std.specs.Prelude.{◌≡◌, ◌↔◌, ℕ, ◌+◌, ◌≤◌, List, [], ◌∷◌, ◌++◌, map, length, All, true, false, Option, Some, None, Ok, Err}
 use Rattle.xt_shapes.specs.declared.leaves.Rep.{Rep}
 use Rattle.xt_shapes.specs.Shape.{Shape}
 use Rattle.xt_shapes.specs.Vals.{Val}
@@ -7,25 +7,28 @@ use Rattle.type_trees.specs.declared.types.HashId.{HashId}
 use Rattle.type_trees.specs.Ids.{is_object_kind, id_octets}
 use Rattle.type_trees.specs.Trees.{Tree}
 use Rattle.type_trees.specs.Bridge.{shape}
+use Rattle.type_trees.specs.samples.Tops.{is_top}
 use Rattle.type_rules.specs.Valid.{type_fault}
 use Rattle.object_formats.specs.Objects.{Object}
-use Rattle.type_object.specs.Pools.{Texts, object_at}
+use Rattle.type_object.specs.Pools.{Texts, IsPool, found, object_at}
 use Rattle.type_object.specs.References.{is_among, in_order}
 use Rattle.object_walks.specs.Resolving.{resolved}
 use Rattle.object_walks.specs.Laws.{IsReached}
 use Rattle.xt_io.specs.declared.Item.{Item}
-use Rattle.xt_io.specs.declared.Kind.TheVariants.{Sample}
+use Rattle.xt_io.specs.declared.Kind.TheVariants.{Object as ObjectKind, Sample, Note}
+use Rattle.xt_io.specs.Records.{items_octets}
 use Rattle.xcdr_model.specs.Assignable.{Assignable}
 use Rattle.xcdr_model.specs.Policies.{standard}
 use Rattle.xcdr_model.specs.Samples.{projection}
 use Rattle.xcdr_model.specs.SampleSpelling.{IsSample}
+use Rattle.xcdr_model.specs.Failure.{Failure, first_failure}
 use Rattle.hex.specs.Hex.{IsBytes}
 use Rattle.xt_recorder.specs.declared.replayed.Replayed.{Replayed}
 use Rattle.xt_recorder.specs.declared.replayed.ReplayFault.{ReplayFault}
 use Rattle.xt_recorder.specs.declared.replayed.ReplayFault.TheVariants as faults
 use Rattle.xt_recorder.specs.Streams.{stream_text, stream_of}
-use Rattle.xt_recorder.specs.Recordings.{listed_at, closed}
-use Rattle.xt_recorder.specs.Replays.{State, Stream, Answer, Answers, Refusal, nothing, reads, taken, replay_from, replay}
+use Rattle.xt_recorder.specs.Recordings.{listed_at, closed, opening}
+use Rattle.xt_recorder.specs.Replays.{State, Stream, Answer, Answers, Refusal, nothing, begins, reads, taken, replay_from, replay}
 use Rattle.xt_recorder.specs.Answers.{answer, Refuses}
 
 -- ---- streams
@@ -109,3 +112,47 @@ pub record ListsReached (pool : Texts) (id : HashId) : Type 0 where
 
 abbrev pub ClosedIsReached : Type 0
 ClosedIsReached = (pool : Texts) (id : HashId) (t : Tree) → resolved pool id ≡ Ok t → ListsReached pool id
+
+-- ---- a recording as a whole
+
+-- these records are the objects of these identifiers
+abbrev pub AreObjects : Texts → List HashId → List Item → Type 0
+AreObjects pool [] [] = Unit {0}
+AreObjects pool [] (item ∷ items) = ⊥
+AreObjects pool (id ∷ ids) [] = ⊥
+AreObjects pool (id ∷ ids) (item ∷ items) = (item.kind ≡ ObjectKind) × (found id pool ≡ Some item.payload) × AreObjects pool ids items
+
+-- the records at the beginning of a stream: what it carries, and its Note
+pub record IsOpening (pool : Texts) (id : HashId) (rep : Rep) (items : List Item) (note : Item) : Type 0 where
+  pub objects : AreObjects pool (closed pool id) items
+  pub kind : note.kind ≡ Note
+  pub payload : note.payload ≡ stream_text id rep
+
+-- What `write_stream` writes are the octets of such records.
+abbrev pub OpeningIsRecords : Type 0
+OpeningIsRecords = (pool : Texts) (id : HashId) (rep : Rep) (objects : List Item) (note : Item) → IsOpening pool id rep objects note → items_octets (objects ++ note ∷ []) ≡ opening pool id rep
+
+-- under no identifier do the two have different texts, and they have no more than a pool may have
+pub record GoTogether (a b : Texts) : Type 0 where
+  pub agree : (id : HashId) (x y : List ℕ) → found id a ≡ Some x → found id b ≡ Some y → x ≡ y
+  pub few : length a + length b ≤ 4096
+
+-- a stream of a type, recorded from one pool and replayed over another
+pub record IsStream (pool start : Texts) (id : HashId) (t : Tree) : Type 0 where
+  pub pooled : IsPool pool
+  pub resolves : resolved pool id ≡ Ok t
+  pub top : is_top (shape t) ≡ true
+  pub together : GoTogether start pool
+
+-- Where the reader's type is assignable from a recording's, the recording is replayed, whatever came before it, as the projections of the
+-- values that its samples spell.
+abbrev pub RecordingReplayed : Type 0
+RecordingReplayed = (reader t : Tree) (pool : Texts) (s : State) (id : HashId) (rep : Rep) (objects samples : List Item) (note : Item) (vs : List Val) → IsStream pool s.pool id t → IsOpening pool id rep objects note
+    → Spell rep (shape t) samples vs → type_fault reader ≡ None → Assignable standard rep (shape reader) (shape t)
+    → replay_from reader s (objects ++ note ∷ samples) ≡ (map (λ item. nothing) objects ++ begins id rep None ∷ map (λ v. reads (projection (shape reader) (shape t) v)) vs, None)
+
+-- Where it isn't, the rule that fails is told, and nothing of the samples.
+abbrev pub RecordingRefused : Type 0
+RecordingRefused = (reader t : Tree) (pool : Texts) (s : State) (id : HashId) (rep : Rep) (objects samples : List Item) (note : Item) (f : Failure) → IsStream pool s.pool id t → IsOpening pool id rep objects note
+    → AreSamples samples → first_failure standard rep (shape reader) (shape t) ≡ Some f
+    → replay_from reader s (objects ++ note ∷ samples) ≡ (map (λ item. nothing) objects ++ begins id rep (Some f) ∷ map (λ item. nothing) samples, None)

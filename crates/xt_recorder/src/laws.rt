@@ -35,3 +35,22 @@ pub fn takes_are_replay()
 pub fn closed_is_reached()
     ensures { law.ClosedIsReached }
 {}
+
+/// What `write_stream` writes are records: the objects that a recording carries, and its Note.
+pub fn opening_is_records()
+    ensures { law.OpeningIsRecords }
+{}
+
+/// Where the reader's type is assignable from a recording's, the recording is replayed as the projections of the values that it spells.
+pub fn recording_replayed()
+    ensures { law.RecordingReplayed }
+{
+    shape_keeps_rules();
+    shape_laws::judged();
+    shape_laws::cross_sample();
+}
+
+/// Where it isn't, the rule that fails is told, and nothing of the samples.
+pub fn recording_refused()
+    ensures { law.RecordingRefused }
+{}
