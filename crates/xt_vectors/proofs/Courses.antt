@@ -3,7 +3,7 @@ use Rattle.std.proofs.Common.{◌≡◌, ℕ, ◌+◌, ◌<◌, ◌≤◌, List,
 use Rattle.md5.specs.declared.Md5.{Md5}
 use Rattle.md5.specs.Md5.{Holds, md5}
 use Rattle.xt_vectors.specs.declared.findings.Finding.{Finding}
-use Rattle.xt_vectors.specs.declared.findings.Finding.TheVariants.{No, Malformed, Read, Discarded, MustUnderstand}
+use Rattle.xt_vectors.specs.declared.findings.Finding.TheVariants.{No, Read, Discarded, MustUnderstand}
 use Rattle.xt_vectors.specs.declared.runs.Counts.{Counts}
 use Rattle.xt_vectors.specs.Findings.{found}
 use Rattle.xt_vectors.specs.Pairs.{Posed, pair_drawn}
@@ -19,7 +19,6 @@ below_more c n m le b = record { yes = omega (arith, b.yes, le); no = omega (ari
 
 pub below_counted : (f : Finding) (c : Counts) (n : ℕ) → IsBelow c n → IsBelow (counted f c) (n + 1)
 below_counted No c n b = record { yes = omega (arith, b.yes); no = omega (arith, b.no); ok = omega (arith, b.ok); discarded = omega (arith, b.discarded); must_understand = omega (arith, b.must_understand) }
-below_counted Malformed c n b = record { yes = omega (arith, b.yes); no = omega (arith, b.no); ok = omega (arith, b.ok); discarded = omega (arith, b.discarded); must_understand = omega (arith, b.must_understand) }
 below_counted Read c n b = record { yes = omega (arith, b.yes); no = omega (arith, b.no); ok = omega (arith, b.ok); discarded = omega (arith, b.discarded); must_understand = omega (arith, b.must_understand) }
 below_counted Discarded c n b = record { yes = omega (arith, b.yes); no = omega (arith, b.no); ok = omega (arith, b.ok); discarded = omega (arith, b.discarded); must_understand = omega (arith, b.must_understand) }
 below_counted MustUnderstand c n b = record { yes = omega (arith, b.yes); no = omega (arith, b.no); ok = omega (arith, b.ok); discarded = omega (arith, b.discarded); must_understand = omega (arith, b.must_understand) }

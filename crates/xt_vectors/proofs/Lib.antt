@@ -2,3 +2,8 @@ pub mod Courses
 pub mod Loops
 pub mod Readings
 pub mod Slots
+pub mod Planned
+pub mod Names
+pub mod Valid
+pub mod Typed
+pub mod Sound

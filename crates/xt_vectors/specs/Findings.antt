@@ -1,15 +1,14 @@
 -- What is found of a pair: whether the reader's type is assignable from the writer's under the standard policy (DDS-XTypes 1.3, 7.2.4),
--- and on Yes what the reader makes of the value's sample in little-endian order (7.4 and 7.6.3.1.2).
-use Rattle.std.specs.Prelude.{ℕ, List, [], Some, None, Result, Ok, Err}
+-- and on Yes what the value's projection is; its sample is in little-endian order (7.4 and 7.6.3.1.2).
+use Rattle.std.specs.Prelude.{ℕ, List, [], Some, None}
 use Rattle.xt_shapes.specs.declared.leaves.Order.TheVariants.{Little}
 use Rattle.type_trees.specs.Bridge.{shape}
-use Rattle.xcdr_model.specs.declared.malformed.Fault.{Fault}
 use Rattle.xcdr_model.specs.Failure.{First, first_failure}
 use Rattle.xcdr_model.specs.Policies.{standard}
-use Rattle.xcdr_model.specs.Samples.{Outcome, sample, discarded, must_understand, read_sample}
+use Rattle.xcdr_model.specs.Samples.{Outcome, sample, discarded, must_understand, projection}
 use Rattle.xcdr_model.specs.SampleSpelling.{fixed_sample}
 use Rattle.xt_vectors.specs.declared.findings.Finding.{Finding}
-use Rattle.xt_vectors.specs.declared.findings.Finding.TheVariants.{No, Malformed, Read, Discarded, MustUnderstand}
+use Rattle.xt_vectors.specs.declared.findings.Finding.TheVariants.{No, Read, Discarded, MustUnderstand}
 use Rattle.xt_vectors.specs.Pairs.{Posed}
 
 abbrev pub verdict : Posed → First
@@ -23,16 +22,13 @@ of_outcome (sample v) = Read
 of_outcome discarded = Discarded
 of_outcome must_understand = MustUnderstand
 
-abbrev pub finding_of : Result Outcome Fault → Finding
-finding_of (Ok x) = of_outcome x
-finding_of (Err fault) = Malformed
-
-abbrev pub read_back : Posed → Finding
-read_back p = finding_of (read_sample p.rep (shape p.reader) (spelled p))
+-- what the value is to the reader
+abbrev pub projected : Posed → Outcome
+projected p = projection (shape p.reader) (shape p.writer) p.value
 
 -- the finding, and the sample where one is written
 abbrev pub found_after : Posed → First → Finding × List ℕ
-found_after p None = (read_back p, spelled p)
+found_after p None = (of_outcome (projected p), spelled p)
 found_after p (Some failure) = (No, [])
 
 unfoldable pub found : Posed → Finding × List ℕ

@@ -6,4 +6,5 @@ pub mod Values
 pub mod Pairs
 pub mod Findings
 pub mod Runs
+pub mod Laws
 pub mod Worked

@@ -2,7 +2,7 @@
 use Rattle.std.specs.Prelude.{ℕ, zero, suc, ◌+◌, ◌<◌, List, [], ◌++◌}
 use Rattle.md5.specs.Md5.{md5}
 use Rattle.xt_vectors.specs.declared.findings.Finding.{Finding}
-use Rattle.xt_vectors.specs.declared.findings.Finding.TheVariants.{No, Malformed, Read, Discarded, MustUnderstand}
+use Rattle.xt_vectors.specs.declared.findings.Finding.TheVariants.{No, Read, Discarded, MustUnderstand}
 use Rattle.xt_vectors.specs.declared.runs.Counts.{Counts}
 use Rattle.xt_vectors.specs.declared.runs.Summary.{Summary}
 use Rattle.xt_vectors.specs.Findings.{found}
@@ -28,7 +28,6 @@ pub record IsBelow (c : Counts) (n : ℕ) : Type 0 where
 -- each finding but No is one of a Yes
 abbrev pub counted : Finding → Counts → Counts
 counted No c = record { yes = c.yes; no = c.no + 1; ok = c.ok; discarded = c.discarded; must_understand = c.must_understand }
-counted Malformed c = record { yes = c.yes + 1; no = c.no; ok = c.ok; discarded = c.discarded; must_understand = c.must_understand }
 counted Read c = record { yes = c.yes + 1; no = c.no; ok = c.ok + 1; discarded = c.discarded; must_understand = c.must_understand }
 counted Discarded c = record { yes = c.yes + 1; no = c.no; ok = c.ok; discarded = c.discarded + 1; must_understand = c.must_understand }
 counted MustUnderstand c = record { yes = c.yes + 1; no = c.no; ok = c.ok; discarded = c.discarded; must_understand = c.must_understand + 1 }

@@ -4,6 +4,7 @@
 
 mod draws;
 mod findings;
+pub mod laws;
 mod pairs;
 mod plans;
 mod readers;

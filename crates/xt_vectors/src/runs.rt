@@ -3,6 +3,7 @@ ghost use Rattle.xt_vectors.specs.Runs as spec;
 
 use crate::draws::Draws;
 use crate::findings::{Finding, try_pair};
+use crate::laws::each_is_sound;
 use crate::pairs::draw_pair;
 use md5::{Digest, Md5};
 use std::alloc::Global;
@@ -54,10 +55,6 @@ impl Counts {
                 no: self.no + 1,
                 ..self
             },
-            Finding::Malformed => Counts {
-                yes: self.yes + 1,
-                ..self
-            },
             Finding::Read => Counts {
                 yes: self.yes + 1,
                 ok: self.ok + 1,
@@ -101,6 +98,7 @@ pub fn run(alloc: Global, seed: u64, count: u32) -> Result<Summary, OutOfMemory>
     let mut draws = Draws::new(seed);
     let mut hasher = Md5::new();
     let mut counts = Counts::none();
+    each_is_sound();
     for _turn in 0..count {
         let pair = draw_pair(alloc, &mut draws)?;
         counts = counts.with(try_pair(alloc, &pair, &mut hasher)?);

@@ -1,5 +1,6 @@
 use Rattle.std.proofs.Common.{sym, subst, arith}
 use Rattle.xt_vectors.specs.declared.runs.Counts.{Counts}
+use Rattle.xt_vectors.specs.Laws.{IsSound}
 use Rattle.xt_vectors.specs.Runs.{IsBelow, course}
 use Rattle.xt_vectors.proofs.Courses.{below_none, below_more, course_more, one_on, summed_up}
 use Rattle.xt_vectors.proofs.runs.run.Goals as goal
@@ -20,3 +21,6 @@ loop-turn-preserved c = one_on (course c.args.seed c.loop-turn._turn) c.loop-tur
 
 pub returns : goal.returns
 returns c = summed_up c.args.seed c.args.count c.loop-turn._turn _ _ _ _ _ c.loop-turn.invariant (omega (arith, c.loop-turn-test.false, c.loop-turn.auto._turn-end)) c.finalize.ensures c.summary.ensures
+
+pub try_pair-requires : goal.try_pair-requires
+try_pair-requires c = subst IsSound (sym c.in_ok-pair.ensures.item) (c.each_is_sound.ensures c.loop-turn.draws.state)
