@@ -19,7 +19,7 @@ use Rattle.lookup_replies.proofs.Putting.{grows_not}
 use Rattle.lookup_service.specs.declared.ended.Ended.{Ended}
 use Rattle.lookup_service.specs.declared.ended.Ended.TheVariants.{Closed, LinkFault, BadFrame, Limit, OutOfMemory}
 use Rattle.lookup_service.specs.States.{IsStep, Replied}
-use Rattle.lookup_service.specs.Sessions.{IsRequest, AreRequests, IsBadFrame, IsPrefix, EndsBy, Sends, SessionOver, end_of}
+use Rattle.lookup_service.specs.Sessions.{IsRequest, AreRequests, IsBadFront, IsPrefix, EndsBy, Sends, SessionOver, end_of}
 
 -- one more reply
 replied_more : (name : List ℕ → List ℕ) (s : PassView) (requests replies : List Message) (t u : PassView) (request reply : Message) → Replied name s requests replies t → IsStep name t u request reply → Replied name s (requests ++ request ∷ []) (replies ++ reply ∷ []) u
@@ -102,12 +102,12 @@ module _ (name : List ℕ → List ℕ) (entry now : PassView) (gb gn lb ln tb t
   pub bad_frame : (gx lx : Option (List ℕ)) (piece : List ℕ) (fault : FrameFault) → number < 65536 → Took gn gx ln lx piece → Answers piece lx (Err fault) → SessionOver name entry now gb gx lb lx tb tn (end_of fault at)
   bad_frame gx lx piece frame.LinkFault few took is = ended gx lx now piece LinkFault took (grows_not now) (omega (arith, g.count)) all_sent
   bad_frame gx lx piece frame.OutOfMemory few took is = ended gx lx now piece OutOfMemory took (grows_not now) (omega (arith, g.count)) all_sent
-  bad_frame gx lx piece frame.Truncated few took is = ended gx lx now piece (BadFrame at) took (grows_not now) (omega (arith, g.count), g.long, subst (λ f. IsBadFrame f (IsAtEnd lx)) (sym is.0) is.1) g.sends
-  bad_frame gx lx piece (frame.TooLong n) few took is = ended gx lx now piece (BadFrame at) took (grows_not now) (omega (arith, g.count), g.long, subst (λ f. IsBadFrame f (IsAtEnd lx)) (sym is) tt) g.sends
-  bad_frame gx lx piece (frame.BadMessage place) few took is = ended gx lx now piece (BadFrame at) took (grows_not now) (omega (arith, g.count), g.long, subst (λ f. IsBadFrame f (IsAtEnd lx)) (sym is) tt) g.sends
+  bad_frame gx lx piece frame.Truncated few took is = ended gx lx now piece (BadFrame at) took (grows_not now) (omega (arith, g.count), g.long, subst (λ f. IsBadFront piece f (IsAtEnd lx)) (sym is.0) (is.1, tt)) g.sends
+  bad_frame gx lx piece (frame.TooLong n) few took is = ended gx lx now piece (BadFrame at) took (grows_not now) (omega (arith, g.count), g.long, subst (λ f. IsBadFront piece f (IsAtEnd lx)) (sym is.0) (tt, is.1)) g.sends
+  bad_frame gx lx piece (frame.BadMessage place) few took is = ended gx lx now piece (BadFrame at) took (grows_not now) (omega (arith, g.count), g.long, subst (λ f. IsBadFront piece f (IsAtEnd lx)) (sym is.0) (tt, is.1)) g.sends
 
   pub no_request : (gx lx : Option (List ℕ)) (piece : List ℕ) (message : Message) → number < 65536 → Took gn gx ln lx piece → front piece ≡ framed message [] → is_request message ≡ false → SessionOver name entry now gb gx lb lx tb tn (BadFrame at)
-  no_request gx lx piece message few took is isnt = ended gx lx now piece (BadFrame at) took (grows_not now) (omega (arith, g.count), g.long, subst (λ f. IsBadFrame f (IsAtEnd lx)) (sym is) (isnt, refl)) g.sends
+  no_request gx lx piece message few took is isnt = ended gx lx now piece (BadFrame at) took (grows_not now) (omega (arith, g.count), g.long, subst (λ f. IsBadFront piece f (IsAtEnd lx)) (sym is) (isnt, refl)) g.sends
 
   pub no_memory : (gx lx : Option (List ℕ)) (exit : PassView) (piece : List ℕ) → number < 65536 → Took gn gx ln lx piece → Grows now exit → SessionOver name entry exit gb gx lb lx tb tn OutOfMemory
   no_memory gx lx exit piece few took grows = ended gx lx exit piece OutOfMemory took grows (omega (arith, g.count)) all_sent

@@ -6,7 +6,7 @@ use Rattle.xt_io.specs.Outside.{Rose}
 use Rattle.type_lookup.specs.declared.messages.messages.Message.{Message}
 use Rattle.type_lookup.specs.declared.faults.FrameFault.{FrameFault}
 use Rattle.type_lookup.specs.declared.faults.FrameFault.TheVariants as frame
-use Rattle.type_lookup.specs.Frames.{Front, no_frame, framed, broken, front, Took}
+use Rattle.type_lookup.specs.Frames.{Front, no_frame, framed, broken, front, Took, EndsThere}
 use Rattle.type_lookup.specs.Sequences.{frames_of, AreFrames}
 use Rattle.type_registry.specs.Passed.{PassView, Grows}
 use Rattle.lookup_replies.specs.Replies.{is_request}
@@ -32,11 +32,15 @@ IsBroken (frame.TooLong n) at_end = Unit {0}
 IsBroken (frame.BadMessage at) at_end = Unit {0}
 IsBroken frame.OutOfMemory at_end = ⊥
 
--- What stands at the front is no frame of a request, and nothing stands behind it.
-abbrev pub IsBadFrame : Front → Type 0 → Type 0
-IsBadFrame no_frame at_end = ⊥
-IsBadFrame (framed message rest) at_end = (is_request message ≡ false) × (rest ≡ [])
-IsBadFrame (broken fault) at_end = IsBroken fault at_end
+-- What stands at the front of these octets is no frame of a request, and nothing stands behind it.
+abbrev pub IsBadFront : List ℕ → Front → Type 0 → Type 0
+IsBadFront octets no_frame at_end = ⊥
+IsBadFront octets (framed message rest) at_end = (is_request message ≡ false) × (rest ≡ [])
+IsBadFront octets (broken fault) at_end = IsBroken fault at_end × EndsThere fault octets
+
+-- These octets are a frame that is no request's, up to where its fault shows.
+abbrev pub IsBadFrame : List ℕ → Type 0 → Type 0
+IsBadFrame octets at_end = IsBadFront octets (front octets) at_end
 
 -- ---- what is sent
 
@@ -56,7 +60,7 @@ Sends OutOfMemory sent frames = IsPrefix sent frames
 -- How a session ended behind the frames of so many requests, of so many octets, where these octets were read behind them and those are left.
 abbrev pub EndsBy : Ended → ℕ → ℕ → List ℕ → Option (List ℕ) → Type 0
 EndsBy Closed count long behind left = (count < 65536) × (behind ≡ []) × IsAtEnd left
-EndsBy (BadFrame at) count long behind left = (count < 65536) × (at ≡ long) × IsBadFrame (front behind) (IsAtEnd left)
+EndsBy (BadFrame at) count long behind left = (count < 65536) × (at ≡ long) × IsBadFrame behind (IsAtEnd left)
 EndsBy Limit count long behind left = (count ≡ 65536) × (behind ≡ [])
 EndsBy LinkFault count long behind left = count ≤ 65536
 EndsBy OutOfMemory count long behind left = count ≤ 65536
