@@ -73,17 +73,26 @@ fn is_whole(turn: &Turn) -> bool {
     }
 }
 
-// Holds the first call until a second one is made, or until it has waited so many turns.
+// Holds the first call until a second one is made, or until it has waited so many turns. It counts the calls, also those for a session's first
+// request and for its second.
 #[derive(Drop)]
 struct Both {
     calls: AtomicU64,
+    firsts: AtomicU64,
+    seconds: AtomicU64,
     late: AtomicU64,
 }
 
 const MOST_TURNS: u64 = 2_000_000;
 
 impl Gate for Both {
-    fn before_reply(&self, _request: u64) {
+    fn before_reply(&self, request: u64) {
+        if request == 0 {
+            self.firsts.fetch_add(1, Ordering::SeqCst);
+        }
+        if request == 1 {
+            self.seconds.fetch_add(1, Ordering::SeqCst);
+        }
         if self.calls.fetch_add(1, Ordering::SeqCst) > 0 {
             return;
         }
@@ -104,12 +113,16 @@ fn two_workers_hold_their_sessions_beside_each_other(rt: HostRuntime) -> Result<
     let mut seats = seats(alloc, &registry, &[0, 0]).expect(&rt, "memory");
     let gate = Both {
         calls: AtomicU64::new(0),
+        firsts: AtomicU64::new(0),
+        seconds: AtomicU64::new(0),
         late: AtomicU64::new(0),
     };
     let served = serve_workers(&rt, alloc, &registry, &mut seats, 2, &gate);
     assert_eq!(rt; served, Ok(4));
     assert_eq!(rt; gate.late.load(Ordering::SeqCst), 0);
     assert_eq!(rt; gate.calls.load(Ordering::SeqCst), 8);
+    assert_eq!(rt; gate.firsts.load(Ordering::SeqCst), 4);
+    assert_eq!(rt; gate.seconds.load(Ordering::SeqCst), 4);
     for seat in seats.as_slice() {
         assert_eq!(rt; held(&seat.door), 2);
     }

@@ -1,5 +1,5 @@
 -- A session, one request after another.
-use Rattle.std.proofs.Common.{◌≡◌, ℕ, ◌+◌, ◌<◌, List, [], ◌∷◌, ◌++◌, true, false, length, Option, refl, sym, ap, subst, ◌∙◌, append_assoc, append-nil, length-append, arith}
+use Rattle.std.proofs.Common.{◌≡◌, ℕ, suc, ◌+◌, below_more, ◌<◌, List, [], ◌∷◌, ◌++◌, true, false, length, Option, refl, sym, ap, subst, ◌∙◌, append_assoc, append-nil, length-append, arith}
 use Rattle.std.specs.Prelude.{Err}
 use Rattle.std.proofs.lemmas.List.Elements.{All-nil, All-push}
 use Rattle.std.specs.Int.{w32, to_be_bytes}
@@ -19,7 +19,7 @@ use Rattle.lookup_replies.proofs.Putting.{grows_not}
 use Rattle.lookup_service.specs.declared.ended.Ended.{Ended}
 use Rattle.lookup_service.specs.declared.ended.Ended.TheVariants.{Closed, LinkFault, BadFrame, Limit, OutOfMemory}
 use Rattle.lookup_service.specs.States.{IsStep, Replied}
-use Rattle.lookup_service.specs.Sessions.{IsRequest, AreRequests, IsBadFront, IsPrefix, EndsBy, Sends, SessionOver, end_of}
+use Rattle.lookup_service.specs.Sessions.{IsRequest, AreRequests, IsBadFront, IsPrefix, EndsBy, Sends, AreAsked, GatedOver, end_of}
 
 -- one more reply
 replied_more : (name : List ℕ → List ℕ) (s : PassView) (requests replies : List Message) (t u : PassView) (request reply : Message) → Replied name s requests replies t → IsStep name t u request reply → Replied name s (requests ++ request ∷ []) (replies ++ reply ∷ []) u
@@ -27,6 +27,12 @@ replied_more name s [] [] t u request reply all step = (u, subst (λ (v : PassVi
 replied_more name s [] (a ∷ rs) t u request reply all step = absurd all
 replied_more name s (q ∷ qs) [] t u request reply all step = absurd all
 replied_more name s (q ∷ qs) (a ∷ rs) t u request reply all step = (all.0, all.1, replied_more name all.0 qs rs t u request reply all.2 step)
+
+as_many : (name : List ℕ → List ℕ) (s : PassView) (requests replies : List Message) (t : PassView) → Replied name s requests replies t → length replies ≡ length requests
+as_many name s [] [] t all = refl
+as_many name s [] (a ∷ rs) t all = absurd all
+as_many name s (q ∷ qs) [] t all = absurd all
+as_many name s (q ∷ qs) (a ∷ rs) t all = ap suc (as_many name all.0 qs rs t all.2)
 
 -- the frames that are sent, and one more
 sent_more : (messages : List Message) (message : Message) → frames_of (messages ++ message ∷ []) ≡ frames_of messages ++ frame_of message
@@ -70,68 +76,11 @@ going_none name entry got left taken = record {
 }
 
 module _ (name : List ℕ → List ℕ) (entry now : PassView) (gb gn lb ln tb tn : Option (List ℕ)) (number at : ℕ) (g : Going name entry now gb gn lb ln tb tn number at) where
-  -- it ends behind some further octets, where all replies were sent
-  ended : (gx lx : Option (List ℕ)) (exit : PassView) (piece : List ℕ) (end : Ended) → Took gn gx ln lx piece → Grows now exit → EndsBy end (length g.requests) (length g.octets) piece lx → Sends end g.sent (frames_of g.replies)
-      → SessionOver name entry exit gb gx lb lx tb tn end
-  ended gx lx exit piece end took grows ends sends = record {
-    octets = g.octets ++ piece;
-    sent = g.sent;
-    took = took-more gb gn gx lb ln lx g.octets piece g.took took;
-    gave = g.gave;
-    session = record {
-      requests = g.requests;
-      replies = g.replies;
-      last = now;
-      ahead = g.octets;
-      behind = piece;
-      cut = refl;
-      read = g.read;
-      replied = g.replied;
-      later = grows;
-      ends = ends;
-      sends = sends;
-    };
-  }
+  many : length g.replies ≡ number
+  many = as_many name entry g.requests g.replies now g.replied ∙ g.count
 
   all_sent : IsPrefix g.sent (frames_of g.replies)
   all_sent = ([], sym g.sends ∙ sym (append-nil g.sent))
-
-  pub closed : (gx lx : Option (List ℕ)) (piece : List ℕ) → number < 65536 → Took gn gx ln lx piece → piece ≡ [] → IsAtEnd lx → SessionOver name entry now gb gx lb lx tb tn Closed
-  closed gx lx piece few took none end = ended gx lx now piece Closed took (grows_not now) (omega (arith, g.count), none, end) g.sends
-
-  pub bad_frame : (gx lx : Option (List ℕ)) (piece : List ℕ) (fault : FrameFault) → number < 65536 → Took gn gx ln lx piece → Answers piece lx (Err fault) → SessionOver name entry now gb gx lb lx tb tn (end_of fault at)
-  bad_frame gx lx piece frame.LinkFault few took is = ended gx lx now piece LinkFault took (grows_not now) (omega (arith, g.count)) all_sent
-  bad_frame gx lx piece frame.OutOfMemory few took is = ended gx lx now piece OutOfMemory took (grows_not now) (omega (arith, g.count)) all_sent
-  bad_frame gx lx piece frame.Truncated few took is = ended gx lx now piece (BadFrame at) took (grows_not now) (omega (arith, g.count), g.long, subst (λ f. IsBadFront piece f (IsAtEnd lx)) (sym is.0) (is.1, tt)) g.sends
-  bad_frame gx lx piece (frame.TooLong n) few took is = ended gx lx now piece (BadFrame at) took (grows_not now) (omega (arith, g.count), g.long, subst (λ f. IsBadFront piece f (IsAtEnd lx)) (sym is.0) (tt, is.1)) g.sends
-  bad_frame gx lx piece (frame.BadMessage place) few took is = ended gx lx now piece (BadFrame at) took (grows_not now) (omega (arith, g.count), g.long, subst (λ f. IsBadFront piece f (IsAtEnd lx)) (sym is.0) (tt, is.1)) g.sends
-
-  pub no_request : (gx lx : Option (List ℕ)) (piece : List ℕ) (message : Message) → number < 65536 → Took gn gx ln lx piece → front piece ≡ framed message [] → is_request message ≡ false → SessionOver name entry now gb gx lb lx tb tn (BadFrame at)
-  no_request gx lx piece message few took is isnt = ended gx lx now piece (BadFrame at) took (grows_not now) (omega (arith, g.count), g.long, subst (λ f. IsBadFront piece f (IsAtEnd lx)) (sym is) (isnt, refl)) g.sends
-
-  pub no_memory : (gx lx : Option (List ℕ)) (exit : PassView) (piece : List ℕ) → number < 65536 → Took gn gx ln lx piece → Grows now exit → SessionOver name entry exit gb gx lb lx tb tn OutOfMemory
-  no_memory gx lx exit piece few took grows = ended gx lx exit piece OutOfMemory took grows (omega (arith, g.count)) all_sent
-
-  pub limit : number ≡ 65536 → SessionOver name entry now gb gn lb ln tb tn Limit
-  limit all = record {
-    octets = g.octets;
-    sent = g.sent;
-    took = g.took;
-    gave = g.gave;
-    session = record {
-      requests = g.requests;
-      replies = g.replies;
-      last = now;
-      ahead = g.octets;
-      behind = [];
-      cut = sym (append-nil g.octets);
-      read = g.read;
-      replied = g.replied;
-      later = grows_not now;
-      ends = (g.count ∙ all, refl);
-      sends = g.sends;
-    };
-  }
 
   -- one more request was read
   more_read : (piece : List ℕ) (request : Message) → front piece ≡ framed request [] → is_request request ≡ true → AreRequests (g.octets ++ piece) (g.requests ++ request ∷ [])
@@ -140,39 +89,8 @@ module _ (name : List ℕ → List ℕ) (entry now : PassView) (gb gn lb ln tb t
     each = All-push IsRequest g.requests request g.read.each asks;
   }
 
-  -- its reply was sent in part
-  cut_at : (gx lx ty : Option (List ℕ)) (exit : PassView) (piece some : List ℕ) (request reply : Message) → Took gn gx ln lx piece → front piece ≡ framed request [] → is_request request ≡ true → IsStep name now exit request reply → ty ≡ append_known tn some
-      → (end : Ended) → EndsBy end (length (g.requests ++ request ∷ [])) (length (g.octets ++ piece)) [] lx → Sends end (g.sent ++ some) (frames_of (g.replies ++ reply ∷ [])) → SessionOver name entry exit gb gx lb lx tb ty end
-  cut_at gx lx ty exit piece some request reply took is asks step gave end ends sends = record {
-    octets = g.octets ++ piece;
-    sent = g.sent ++ some;
-    took = took-more gb gn gx lb ln lx g.octets piece g.took took;
-    gave = appended-more tb tn ty g.sent some g.gave gave;
-    session = record {
-      requests = g.requests ++ request ∷ [];
-      replies = g.replies ++ reply ∷ [];
-      last = exit;
-      ahead = g.octets ++ piece;
-      behind = [];
-      cut = sym (append-nil (g.octets ++ piece));
-      read = more_read piece request is asks;
-      replied = replied_more name entry g.requests g.replies now exit request reply g.replied step;
-      later = grows_not exit;
-      ends = ends;
-      sends = sends;
-    };
-  }
-
   sent_some : (some : List ℕ) (reply : Message) → IsPrefix some (frame_of reply) → IsPrefix (g.sent ++ some) (frames_of (g.replies ++ reply ∷ []))
   sent_some some reply prefix = (prefix.0, sent_more g.replies reply ∙ ap (λ o. frames_of g.replies ++ o) prefix.1 ∙ sym (append_assoc (frames_of g.replies) some prefix.0) ∙ ap (λ (o : List ℕ). (o ++ some) ++ prefix.0) (sym g.sends))
-
-  pub cut_reply : (gx lx ty : Option (List ℕ)) (exit : PassView) (piece some : List ℕ) (request reply : Message) (fault : FrameFault) (place : ℕ) → number < 65536 → Took gn gx ln lx piece → front piece ≡ framed request [] → is_request request ≡ true → IsStep name now exit request reply
-      → IsPrefix some (frame_of reply) → ty ≡ append_known tn some → IsOutside fault → SessionOver name entry exit gb gx lb lx tb ty (end_of fault place)
-  cut_reply gx lx ty exit piece some request reply frame.LinkFault place few took is asks step prefix gave outside = cut_at gx lx ty exit piece some request reply took is asks step gave LinkFault (omega (arith, length-append g.requests (request ∷ []), g.count)) (sent_some some reply prefix)
-  cut_reply gx lx ty exit piece some request reply frame.OutOfMemory place few took is asks step prefix gave outside = cut_at gx lx ty exit piece some request reply took is asks step gave OutOfMemory (omega (arith, length-append g.requests (request ∷ []), g.count)) (sent_some some reply prefix)
-  cut_reply gx lx ty exit piece some request reply frame.Truncated place few took is asks step prefix gave outside = absurd outside
-  cut_reply gx lx ty exit piece some request reply (frame.TooLong n) place few took is asks step prefix gave outside = absurd outside
-  cut_reply gx lx ty exit piece some request reply (frame.BadMessage at) place few took is asks step prefix gave outside = absurd outside
 
   -- its reply was sent whole
   pub going_more : (gx lx ty : Option (List ℕ)) (exit : PassView) (piece : List ℕ) (request reply : Message) → Took gn gx ln lx piece → front piece ≡ framed request [] → piece ≡ frame_of request → is_request request ≡ true → IsStep name now exit request reply
@@ -191,12 +109,123 @@ module _ (name : List ℕ → List ℕ) (entry now : PassView) (gb gn lb ln tb t
     long = omega (arith, length-append g.octets piece, g.long, ap length spelled);
   }
 
-pub session_as : (name : List ℕ → List ℕ) (entry exit : PassView) (gb gx gy lb lx ly tb tx ty : Option (List ℕ)) (end fin : Ended) → gy ≡ gx → ly ≡ lx → ty ≡ tx → fin ≡ end → SessionOver name entry exit gb gx lb lx tb tx end → SessionOver name entry exit gb gy lb ly tb ty fin
-session_as name entry exit gb gx gy lb lx ly tb tx ty end fin g l t e s =
-    subst (λ (o : Option (List ℕ)). SessionOver name entry exit gb o lb ly tb ty fin) (sym g)
-    (subst (λ (o : Option (List ℕ)). SessionOver name entry exit gb gx lb o tb ty fin) (sym l)
-    (subst (λ (o : Option (List ℕ)). SessionOver name entry exit gb gx lb lx tb o fin) (sym t)
-    (subst (SessionOver name entry exit gb gx lb lx tb tx) (sym e) s)))
+-- ---- with its gate
+
+module _ (asked : ℕ → Type 0) (name : List ℕ → List ℕ) (entry now : PassView) (gb gn lb ln tb tn : Option (List ℕ)) (number at : ℕ) (g : Going name entry now gb gn lb ln tb tn number at) (each : AreAsked asked number) where
+  each_reply : AreAsked asked (length g.replies)
+  each_reply = subst (λ (n : ℕ). AreAsked asked n) (sym (many name entry now gb gn lb ln tb tn number at g)) each
+
+  -- it ends behind some further octets, where all replies were sent
+  ended : (gx lx : Option (List ℕ)) (exit : PassView) (piece : List ℕ) (end : Ended) → Took gn gx ln lx piece → Grows now exit → EndsBy end (length g.requests) (length g.octets) piece lx → Sends end g.sent (frames_of g.replies)
+      → GatedOver asked name entry exit gb gx lb lx tb tn end
+  ended gx lx exit piece end took grows ends sends = record {
+    each = each_reply;
+    over = record {
+      octets = g.octets ++ piece;
+      sent = g.sent;
+      took = took-more gb gn gx lb ln lx g.octets piece g.took took;
+      gave = g.gave;
+      session = record {
+        requests = g.requests;
+        replies = g.replies;
+        last = now;
+        ahead = g.octets;
+        behind = piece;
+        cut = refl;
+        read = g.read;
+        replied = g.replied;
+        later = grows;
+        ends = ends;
+        sends = sends;
+      };
+    };
+  }
+
+  pub closed : (gx lx : Option (List ℕ)) (piece : List ℕ) → number < 65536 → Took gn gx ln lx piece → piece ≡ [] → IsAtEnd lx → GatedOver asked name entry now gb gx lb lx tb tn Closed
+  closed gx lx piece few took none end = ended gx lx now piece Closed took (grows_not now) (omega (arith, g.count), none, end) g.sends
+
+  pub bad_frame : (gx lx : Option (List ℕ)) (piece : List ℕ) (fault : FrameFault) → number < 65536 → Took gn gx ln lx piece → Answers piece lx (Err fault) → GatedOver asked name entry now gb gx lb lx tb tn (end_of fault at)
+  bad_frame gx lx piece frame.LinkFault few took is = ended gx lx now piece LinkFault took (grows_not now) (omega (arith, g.count)) (all_sent name entry now gb gn lb ln tb tn number at g)
+  bad_frame gx lx piece frame.OutOfMemory few took is = ended gx lx now piece OutOfMemory took (grows_not now) (omega (arith, g.count)) (all_sent name entry now gb gn lb ln tb tn number at g)
+  bad_frame gx lx piece frame.Truncated few took is = ended gx lx now piece (BadFrame at) took (grows_not now) (omega (arith, g.count), g.long, subst (λ f. IsBadFront piece f (IsAtEnd lx)) (sym is.0) (is.1, tt)) g.sends
+  bad_frame gx lx piece (frame.TooLong n) few took is = ended gx lx now piece (BadFrame at) took (grows_not now) (omega (arith, g.count), g.long, subst (λ f. IsBadFront piece f (IsAtEnd lx)) (sym is.0) (tt, is.1)) g.sends
+  bad_frame gx lx piece (frame.BadMessage place) few took is = ended gx lx now piece (BadFrame at) took (grows_not now) (omega (arith, g.count), g.long, subst (λ f. IsBadFront piece f (IsAtEnd lx)) (sym is.0) (tt, is.1)) g.sends
+
+  pub no_request : (gx lx : Option (List ℕ)) (piece : List ℕ) (message : Message) → number < 65536 → Took gn gx ln lx piece → front piece ≡ framed message [] → is_request message ≡ false → GatedOver asked name entry now gb gx lb lx tb tn (BadFrame at)
+  no_request gx lx piece message few took is isnt = ended gx lx now piece (BadFrame at) took (grows_not now) (omega (arith, g.count), g.long, subst (λ f. IsBadFront piece f (IsAtEnd lx)) (sym is) (isnt, refl)) g.sends
+
+  pub no_memory : (gx lx : Option (List ℕ)) (exit : PassView) (piece : List ℕ) → number < 65536 → Took gn gx ln lx piece → Grows now exit → GatedOver asked name entry exit gb gx lb lx tb tn OutOfMemory
+  no_memory gx lx exit piece few took grows = ended gx lx exit piece OutOfMemory took grows (omega (arith, g.count)) (all_sent name entry now gb gn lb ln tb tn number at g)
+
+  pub limit : number ≡ 65536 → GatedOver asked name entry now gb gn lb ln tb tn Limit
+  limit all = record {
+    each = each_reply;
+    over = record {
+      octets = g.octets;
+      sent = g.sent;
+      took = g.took;
+      gave = g.gave;
+      session = record {
+        requests = g.requests;
+        replies = g.replies;
+        last = now;
+        ahead = g.octets;
+        behind = [];
+        cut = sym (append-nil g.octets);
+        read = g.read;
+        replied = g.replied;
+        later = grows_not now;
+        ends = (g.count ∙ all, refl);
+        sends = g.sends;
+      };
+    };
+  }
+
+  one_more_asked : asked number → (reply : Message) → AreAsked asked (length (g.replies ++ reply ∷ []))
+  one_more_asked also reply =
+      let long : number + 1 ≡ length (g.replies ++ reply ∷ []) = omega (arith, length-append g.replies (reply ∷ []), many name entry now gb gn lb ln tb tn number at g) in
+      subst (λ (n : ℕ). AreAsked asked n) long (below_more asked number each also)
+
+  -- its reply was sent in part
+  cut_at : (gx lx ty : Option (List ℕ)) (exit : PassView) (piece some : List ℕ) (request reply : Message) → Took gn gx ln lx piece → front piece ≡ framed request [] → is_request request ≡ true → IsStep name now exit request reply → ty ≡ append_known tn some
+      → asked number → (end : Ended) → EndsBy end (length (g.requests ++ request ∷ [])) (length (g.octets ++ piece)) [] lx → Sends end (g.sent ++ some) (frames_of (g.replies ++ reply ∷ [])) → GatedOver asked name entry exit gb gx lb lx tb ty end
+  cut_at gx lx ty exit piece some request reply took is asks step gave also end ends sends = record {
+    each = one_more_asked also reply;
+    over = record {
+      octets = g.octets ++ piece;
+      sent = g.sent ++ some;
+      took = took-more gb gn gx lb ln lx g.octets piece g.took took;
+      gave = appended-more tb tn ty g.sent some g.gave gave;
+      session = record {
+        requests = g.requests ++ request ∷ [];
+        replies = g.replies ++ reply ∷ [];
+        last = exit;
+        ahead = g.octets ++ piece;
+        behind = [];
+        cut = sym (append-nil (g.octets ++ piece));
+        read = more_read name entry now gb gn lb ln tb tn number at g piece request is asks;
+        replied = replied_more name entry g.requests g.replies now exit request reply g.replied step;
+        later = grows_not exit;
+        ends = ends;
+        sends = sends;
+      };
+    };
+  }
+
+  pub cut_reply : (gx lx ty : Option (List ℕ)) (exit : PassView) (piece some : List ℕ) (request reply : Message) (fault : FrameFault) (place : ℕ) → number < 65536 → Took gn gx ln lx piece → front piece ≡ framed request [] → is_request request ≡ true → IsStep name now exit request reply
+      → IsPrefix some (frame_of reply) → ty ≡ append_known tn some → IsOutside fault → asked number → GatedOver asked name entry exit gb gx lb lx tb ty (end_of fault place)
+  cut_reply gx lx ty exit piece some request reply frame.LinkFault place few took is asks step prefix gave outside also = cut_at gx lx ty exit piece some request reply took is asks step gave also LinkFault (omega (arith, length-append g.requests (request ∷ []), g.count)) (sent_some name entry now gb gn lb ln tb tn number at g some reply prefix)
+  cut_reply gx lx ty exit piece some request reply frame.OutOfMemory place few took is asks step prefix gave outside also = cut_at gx lx ty exit piece some request reply took is asks step gave also OutOfMemory (omega (arith, length-append g.requests (request ∷ []), g.count)) (sent_some name entry now gb gn lb ln tb tn number at g some reply prefix)
+  cut_reply gx lx ty exit piece some request reply frame.Truncated place few took is asks step prefix gave outside also = absurd outside
+  cut_reply gx lx ty exit piece some request reply (frame.TooLong n) place few took is asks step prefix gave outside also = absurd outside
+  cut_reply gx lx ty exit piece some request reply (frame.BadMessage at) place few took is asks step prefix gave outside also = absurd outside
+
+pub gated_as : (asked : ℕ → Type 0) (name : List ℕ → List ℕ) (entry exit : PassView) (gb gx gy lb lx ly tb tx ty : Option (List ℕ)) (end fin : Ended) → gy ≡ gx → ly ≡ lx → ty ≡ tx → fin ≡ end → GatedOver asked name entry exit gb gx lb lx tb tx end → GatedOver asked name entry exit gb gy lb ly tb ty fin
+gated_as asked name entry exit gb gx gy lb lx ly tb tx ty end fin g l t e s =
+    subst (λ (o : Option (List ℕ)). GatedOver asked name entry exit gb o lb ly tb ty fin) (sym g)
+    (subst (λ (o : Option (List ℕ)). GatedOver asked name entry exit gb gx lb o tb ty fin) (sym l)
+    (subst (λ (o : Option (List ℕ)). GatedOver asked name entry exit gb gx lb lx tb o fin) (sym t)
+    (subst (GatedOver asked name entry exit gb gx lb lx tb tx) (sym e) s)))
 
 pub going_as : (name : List ℕ → List ℕ) (entry now : PassView) (gb gx gy lb lx ly tb tx ty : Option (List ℕ)) (number at place : ℕ) → gy ≡ gx → ly ≡ lx → ty ≡ tx → place ≡ at → Going name entry now gb gx lb lx tb tx number at → Going name entry now gb gy lb ly tb ty number place
 going_as name entry now gb gx gy lb lx ly tb tx ty number at place g l t e s =

@@ -102,3 +102,14 @@ pub record SessionOver (name : List ℕ → List ℕ) (entry exit : PassView) (g
   pub took : Took got_before got_now left_before left_now octets
   pub gave : taken_now ≡ append_known taken_before sent
   pub session : Session name entry exit octets sent left_now ended
+
+-- ---- the gate
+
+-- The gate was asked for each of so many requests, by its number.
+abbrev pub AreAsked : (ℕ → Type 0) → ℕ → Type 0
+AreAsked asked count = (number : ℕ) → number < count → asked number
+
+-- A session over a link whose gate was asked for each reply of which an octet was sent.
+pub record GatedOver (asked : ℕ → Type 0) (name : List ℕ → List ℕ) (entry exit : PassView) (got_before got_now left_before left_now taken_before taken_now : Option (List ℕ)) (ended : Ended) : Type 0 where
+  pub over : SessionOver name entry exit got_before got_now left_before left_now taken_before taken_now ended
+  pub each : AreAsked asked (length over.session.replies)

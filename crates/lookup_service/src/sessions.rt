@@ -1,10 +1,12 @@
 //! The session over a link.
-ghost use Rattle.std.specs.Prelude.{◌≡◌, ◌≤◌, true, length, IfOk};
+ghost use Rattle.std.specs.Prelude.{◌≡◌, ◌≤◌, ◌++◌, true, ℕ, List, length, IfOk, IfErr};
+ghost use Rattle.std.specs.Io.KnownBytes.{append_known};
+ghost use Rattle.type_lookup.specs.Causes.{HasFrameCause, IsOutside};
 ghost use Rattle.type_lookup.specs.messages.Spelling.{HasFrame, frame_of};
 ghost use Rattle.type_registry.specs.Passed.{Grows};
 ghost use Rattle.lookup_replies.specs.Replies.{is_request as is_request_message};
 ghost use Rattle.lookup_service.specs.States.{IsStep};
-ghost use Rattle.lookup_service.specs.Sessions.{SessionOver, HasSessionCause, end_of};
+ghost use Rattle.lookup_service.specs.Sessions.{SessionOver, GatedOver, HasSessionCause, end_of};
 
 use crate::ended::Ended;
 use crate::gate::Gate;
@@ -37,6 +39,9 @@ pub fn session<'r, N: Naming, L: Link, G: Gate>(
     // What was sent is the replies to the requests that were read, each by a state of the pass of its own; a beginning of them, where the
     // link failed or memory was wanting.
     ensures session { SessionOver N.name pass.old pass.new (L.got link.old) (L.got link.new) (L.left link.old) (L.left link.new) (L.taken link.old) (L.taken link.new) result }
+
+    // The gate was asked for each of these replies by its number, also for one that was sent in part.
+    ensures gate { GatedOver (G.asked gate.now) N.name pass.old pass.new (L.got link.old) (L.got link.new) (L.left link.old) (L.left link.new) (L.taken link.old) (L.taken link.new) result }
     ensures cause { HasSessionCause (L.faults link.old) (L.faults link.new) result }
     ensures same { L.name link.new ≡ L.name link.old }
     ensures grows { Grows pass.old pass.new }
@@ -55,7 +60,7 @@ pub fn session<'r, N: Naming, L: Link, G: Gate>(
             return Ended::OutOfMemory;
         };
         gate.before_reply(number);
-        if let Err(fault) = write_frame(alloc, link, &reply) {
+        if let Err(fault) = send(alloc, link, &reply, gate, number) {
             return ended_by(fault, at);
         }
         at += frame_size(&request);
@@ -79,6 +84,27 @@ fn reply_to<'r, N: Naming>(
     let message = answer(alloc, registry, pass, request)?;
     pass.holds();
     Ok(message)
+}
+
+/// Sends the reply to the request of this number, for which the gate was asked before.
+fn send<L: Link, G: Gate>(
+    alloc: Global,
+    link: &mut L,
+    reply: &Message,
+    _gate: &G,
+    _number: u64,
+) -> Result<(), FrameFault>
+    requires asked { G.asked _gate.now _number }
+    requires frame { HasFrame reply.now }
+    ensures whole { IfOk result (λ _. L.taken link.new ≡ append_known (L.taken link.old) (frame_of reply.now)) }
+    ensures prefix { IfErr result (λ _. (some rest : List ℕ) × (frame_of reply.now ≡ some ++ rest) × (L.taken link.new ≡ append_known (L.taken link.old) some)) }
+    ensures fault { IfErr result IsOutside }
+    ensures got { L.got link.new ≡ L.got link.old }
+    ensures left { L.left link.new ≡ L.left link.old }
+    ensures cause { HasFrameCause (L.faults link.old) (L.faults link.new) result }
+    ensures same { L.name link.new ≡ L.name link.old }
+{
+    write_frame(alloc, link, reply)
 }
 
 /// How a session ends by the fault of a frame that begins at this octet.
