@@ -1,7 +1,7 @@
 //! The push of objects over a link.
 ghost use Rattle.std.specs.Prelude.{◌≡◌, ◌≤◌, ◌<◌, ◌+◌, ◌^◌, length, drop, IfOk};
 ghost use Rattle.std.specs.List.{All};
-ghost use Rattle.type_mirror.specs.told.Laws.{TellsInOrder, TellsLast, GivesAll, MakesEven};
+ghost use Rattle.type_mirror.specs.told.Laws.{TellsInOrder, TellsReplies, TellsLast, GivesAll, MakesEven};
 ghost use Rattle.type_mirror.specs.told.Pushes.{IsOwn, MayPush, PushesOver, HasPushCause};
 ghost use Rattle.type_mirror.specs.Steps.{telling, GoesOver};
 
@@ -34,6 +34,8 @@ pub fn push<N: Naming, L: Link>(
     ensures same { L.name link.new ≡ L.name link.old }
     // What the rounds tell has one entry an object, in order.
     ensures order { TellsInOrder }
+    // It is what the replies that were read say of each object.
+    ensures replies { TellsReplies }
     // Where the replies are those of one session, it holds of the session's last state.
     ensures session { TellsLast }
     // With neither a clash nor a want of room the peer knows every object; and after a push in each direction both sides know all.

@@ -70,7 +70,7 @@ and_left false b x y e = absurd (cc e)
 eq_true : (a b : ℕ) → nat_eq a b ≡ true → a ≡ b
 eq_true a b e = eqb-true a b e
 
-and_first : (a b : Bool) → a && b ≡ true → a ≡ true
+pub and_first : (a b : Bool) → a && b ≡ true → a ≡ true
 and_first true b e = refl
 and_first false b e = e
 

@@ -57,7 +57,7 @@ holds_what k o n h = by (nat_eq n 0) (nat_eq n 1) refl refl
     by false true e f = let z = eqb-true n 1 f in h (omega (arith, z))
     by false false e f = tt
 
-abbrev object_of_outcome : Outcome → Fetched
+abbrev pub object_of_outcome : Outcome → Fetched
 object_of_outcome o = o.object
 
 -- ---- how far a push has come
@@ -87,7 +87,7 @@ inv_settled name objects k (o ∷ os) before told rest cut is kept own = cond_in
 
 -- ---- a clash
 
-and_both : (a b : Bool) → a && b ≡ true → b ≡ true
+pub and_both : (a b : Bool) → a && b ≡ true → b ≡ true
 and_both true b e = e
 and_both false b e = absurd (cc e)
 
@@ -102,7 +102,7 @@ some_text {x} e = ap (get x) e
     get d None = d
     get d (Some s) = s
 
-cond_some : (b : Bool) (x t : List ℕ) → cond b (Some x) None ≡ Some t → (b ≡ true) × (x ≡ t)
+pub cond_some : (b : Bool) (x t : List ℕ) → cond b (Some x) None ≡ Some t → (b ≡ true) × (x ≡ t)
 cond_some true x t e = (refl, some_text e)
 cond_some false x t e = absurd (cc e)
 
@@ -119,7 +119,7 @@ clash_known name o (Some x) t e = by (nat_lt 262131 (length (fetched_octets (rec
         let n = and_both (same_id o.id (named_by name x)) _ (and_both (same_id o.id o.id) _ (and_both (is_object (object_of x)) _ d.0)) in
         (ap (λ (l : List ℕ). Some l) d.1, subst (λ (l : List ℕ). l ≢ o.octets) d.1 (differs x o.octets n))
 
-cond_other : (b : Bool) (o : Option (List ℕ)) (t : List ℕ) → cond b o None ≡ Some t → o ≡ Some t
+pub cond_other : (b : Bool) (o : Option (List ℕ)) (t : List ℕ) → cond b o None ≡ Some t → o ≡ Some t
 cond_other true o t e = e
 cond_other false o t e = absurd (cc e)
 
@@ -129,12 +129,12 @@ served_clash name tag o k reply t is e = clash_known name o (k o.id) t (cond_oth
 
 -- ---- outcomes
 
-paired_objects : (os : List Fetched) (ns : List ℕ) → length ns ≡ length os → map object_of_outcome (paired os ns) ≡ os
+pub paired_objects : (os : List Fetched) (ns : List ℕ) → length ns ≡ length os → map object_of_outcome (paired os ns) ≡ os
 paired_objects [] ns e = refl
 paired_objects (o ∷ os) [] e = absurd (cc e)
 paired_objects (o ∷ os) (n ∷ ns) e = ap (λ (l : List Fetched). o ∷ l) (paired_objects os ns (omega (arith, e)))
 
-cut_at : (n : ℕ) (os : List Fetched) → take n os ++ drop n os ≡ os
+pub cut_at : (n : ℕ) (os : List Fetched) → take n os ++ drop n os ≡ os
 cut_at zero os = refl
 cut_at (suc n) [] = refl
 cut_at (suc n) (o ∷ os) = ap (λ (l : List Fetched). o ∷ l) (cut_at n os)
@@ -198,7 +198,7 @@ step name objects tag p q s next m reply (o ∷ os) i is r st e = get_step name 
 
 -- ---- all steps
 
-none_rest : (tag : ℕ) (os : List Outcome) (rest : List Fetched) → request_by tag os rest ≡ None → map object_of_outcome os ++ rest ≡ []
+pub none_rest : (tag : ℕ) (os : List Outcome) (rest : List Fetched) → request_by tag os rest ≡ None → map object_of_outcome os ++ rest ≡ []
 none_rest tag [] [] e = refl
 none_rest tag [] (o ∷ rest) e = absurd (cc e)
 none_rest tag (o ∷ os) rest e = absurd (cc e)

@@ -9,6 +9,7 @@ use Rattle.lookup_service.specs.States.{Replied}
 use Rattle.type_mirror.specs.declared.told.told.Told.{Told}
 use Rattle.type_mirror.specs.told.Rounds.{pushed, requests_of, done}
 use Rattle.type_mirror.specs.told.Pushes.{MayPush}
+use Rattle.type_mirror.specs.told.ByReplies.{outcomes_in, objects_in, told_by, replies_of}
 use Rattle.type_mirror.specs.told.Tells.{IsTold, IsGood, HasAll, fetched_id, told_id}
 
 -- Where the replies to a push of these objects are those of one session, what is told holds of the session's last state.
@@ -26,6 +27,11 @@ EvensOut known_a known_b from_a from_b told_b told_a =
 -- One entry an object is told, in order.
 abbrev pub TellsInOrder : Type 0
 TellsInOrder = (name : List ℕ → List ℕ) (objects : List Fetched) (messages : List Message) (told : List Told) → (pushed name objects messages).end ≡ done told → map told_id told ≡ map fetched_id objects
+
+-- What is told is what the replies say: of each object the outcome that a reply to putTypes has for it, and of one that clashed the octets that the
+-- reply to getTypes has, under the object's own identifier.
+abbrev pub TellsReplies : Type 0
+TellsReplies = (name : List ℕ → List ℕ) (objects : List Fetched) (messages : List Message) (told : List Told) → (pushed name objects messages).end ≡ done told → let replies = replies_of name objects messages in told ≡ told_by objects (outcomes_in replies) (objects_in replies)
 
 -- Where the replies are those of one session, what is told holds of its last state.
 abbrev pub TellsLast : Type 0
