@@ -14,8 +14,8 @@ use Rattle.type_lookup.specs.Sequences.{frames_of}
 use Rattle.type_lookup.proofs.Taking.{took-none, took-more, appended-none, appended-more}
 use Rattle.type_lookup.proofs.Sequences.{one_more}
 use Rattle.type_registry.specs.Passed.{PassView, Grows}
-use Rattle.lookup_replies.specs.Replies.{is_request}
-use Rattle.lookup_replies.proofs.Putting.{grows_not}
+use Rattle.lookup_service.specs.replies.Replies.{is_request}
+use Rattle.lookup_service.proofs.OfReplies.Putting.{grows_not}
 use Rattle.lookup_service.specs.declared.ended.Ended.{Ended}
 use Rattle.lookup_service.specs.declared.ended.Ended.TheVariants.{Closed, LinkFault, BadFrame, Limit, OutOfMemory}
 use Rattle.lookup_service.specs.States.{IsStep, Replied}

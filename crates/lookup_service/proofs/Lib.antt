@@ -1,3 +1,4 @@
+pub mod OfReplies
 pub mod OfChains
 pub mod OfLink
 pub mod OfWorkers

@@ -1,3 +1,4 @@
+pub mod replies
 pub mod chains
 pub mod link
 pub mod workers

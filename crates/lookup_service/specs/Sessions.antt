@@ -9,7 +9,7 @@ use Rattle.type_lookup.specs.declared.faults.FrameFault.TheVariants as frame
 use Rattle.type_lookup.specs.Frames.{Front, no_frame, framed, broken, front, Took, EndsThere}
 use Rattle.type_lookup.specs.Sequences.{frames_of, AreFrames}
 use Rattle.type_registry.specs.Passed.{PassView, Grows}
-use Rattle.lookup_replies.specs.Replies.{is_request}
+use Rattle.lookup_service.specs.replies.Replies.{is_request}
 use Rattle.lookup_service.specs.declared.ended.Ended.{Ended}
 use Rattle.lookup_service.specs.declared.ended.Ended.TheVariants.{Closed, LinkFault, BadFrame, Limit, OutOfMemory}
 use Rattle.lookup_service.specs.States.{Replied}

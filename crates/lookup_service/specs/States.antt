@@ -3,7 +3,7 @@ use Rattle.std.specs.Prelude.{◌≡◌, ℕ, List, [], ◌∷◌}
 use Rattle.type_lookup.specs.declared.messages.messages.Message.{Message}
 use Rattle.type_lookup.specs.messages.Spelling.{HasFrame}
 use Rattle.type_registry.specs.Passed.{PassView, known, Grows, IsPass}
-use Rattle.lookup_replies.specs.Replies.{IsReply}
+use Rattle.lookup_service.specs.replies.Replies.{IsReply}
 
 -- From one state to the next, which has all that the one had: the reply to a request is by the next.
 pub record IsStep (name : List ℕ → List ℕ) (state next : PassView) (request reply : Message) : Type 0 where

@@ -4,13 +4,13 @@ ghost use Rattle.std.specs.Io.KnownBytes.{append_known};
 ghost use Rattle.type_lookup.specs.Causes.{HasFrameCause, IsOutside};
 ghost use Rattle.type_lookup.specs.messages.Spelling.{HasFrame, frame_of};
 ghost use Rattle.type_registry.specs.Passed.{Grows};
-ghost use Rattle.lookup_replies.specs.Replies.{is_request as is_request_message};
+ghost use Rattle.lookup_service.specs.replies.Replies.{is_request as is_request_message};
 ghost use Rattle.lookup_service.specs.States.{IsStep};
 ghost use Rattle.lookup_service.specs.Sessions.{SessionOver, GatedOver, HasSessionCause, end_of};
 
 use crate::ended::Ended;
 use crate::gate::Gate;
-use lookup_replies::answer;
+use crate::replies::answer;
 use std::alloc::Global;
 use type_lookup::{FrameFault, Message, payload_size, read_frame, write_frame};
 use type_registry::{Naming, Pass, Registry};

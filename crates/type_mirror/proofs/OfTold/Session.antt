@@ -15,7 +15,7 @@ use Rattle.type_lookup.specs.declared.messages.messages.Message.{Message}
 use Rattle.type_lookup.specs.declared.messages.messages.Message.TheVariants.{PutTypes, Types}
 use Rattle.type_lookup.specs.messages.Spelling.{fetched_octets}
 use Rattle.type_object.specs.visits.Visits.{Known as KnownBy}
-use Rattle.lookup_replies.specs.Replies.{and_known, within, served, IsReply, AreOutcomes}
+use Rattle.lookup_service.specs.replies.Replies.{and_known, within, served, IsReply, AreOutcomes}
 use Rattle.lookup_fetch.specs.Rounds.{is_object}
 use Rattle.lookup_service.specs.States.{IsStep, Replied}
 use Rattle.type_mirror.specs.declared.told.told.Told.{Told}

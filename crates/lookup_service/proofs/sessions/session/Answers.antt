@@ -1,7 +1,7 @@
 use Rattle.std.proofs.Common.{◌≡◌, ◌∙◌, ◌+◌, sym, ap, refl, arith, below_none, below_more}
 use Rattle.std.specs.Io.KnownBytes.{append_known}
 use Rattle.type_lookup.specs.messages.Spelling.{frame_of}
-use Rattle.lookup_replies.proofs.Putting.{grows_then, grows_not}
+use Rattle.lookup_service.proofs.OfReplies.Putting.{grows_then, grows_not}
 use Rattle.lookup_service.proofs.Going.{going_none, closed, bad_frame, no_request, no_memory, limit, cut_reply, going_more, gated_as, going_as}
 use Rattle.lookup_service.proofs.sessions.session.Goals as goal
 

@@ -1,5 +1,5 @@
 use Rattle.std.proofs.Common.{◌≡◌, ◌∙◌, refl, arith, rules}
-use Rattle.lookup_replies.proofs.Putting.{grows_then, grows_not}
+use Rattle.lookup_service.proofs.OfReplies.Putting.{grows_then, grows_not}
 use Rattle.lookup_service.proofs.OfWorkers.Serving.{served_none, served_turn, served_refused, rose_later}
 use Rattle.lookup_service.proofs.workers.turns.work.Goals as goal
 
