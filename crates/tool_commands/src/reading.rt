@@ -101,7 +101,10 @@ impl<'a> Prepares for Converting<'a> {
     {
         match reader_type(alloc, &self.pair, records) {
             Err(stop) => Err(stop),
-            Ok(ty) => Ok(Samples::new(self.pair.rep, ty, Conversions { to: self.to })),
+            Ok(ty) => {
+                let form = Conversions { to: self.to };
+                Ok(Samples::planned(alloc, self.pair.rep, ty, form))
+            }
         }
     }
 

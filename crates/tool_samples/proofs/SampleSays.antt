@@ -46,8 +46,9 @@ faults {T} view rep t payload {a} {b} at why start d =
     let s = at_start payload in
     ap (read_sample rep t) (sym (all_of payload)) ∙ said_fault view (read_sample rep t (spot s payload).rest) (spot s payload) s b payload at why refl refl (e.told payload refl)
 
-pub taken_as : (rep : Rep) (t : Shape) (payload : List ℕ) {a b : Standing} (r : Result Settled DecodeFault) → a ≡ at_start payload → Decodes outcome_val (sample_outcome rep t) a b r → Taken (read_sample rep t payload) r
-taken_as rep t payload (Ok x) start d = says outcome_val rep t payload x start d
-taken_as rep t payload (Err (Malformed at why)) start d = faults outcome_val rep t payload at why start d
-taken_as rep t payload (Err ReadFault) start d = tt
-taken_as rep t payload (Err OutOfMemory) start d = tt
+-- a device that never fails has no read fault
+pub taken_as : (rep : Rep) (t : Shape) (payload : List ℕ) {a b : Standing} (r : Result Settled DecodeFault) → a ≡ at_start payload → b.faults ≡ 0 → Decodes outcome_val (sample_outcome rep t) a b r → Taken (read_sample rep t payload) r
+taken_as rep t payload (Ok x) start quiet d = says outcome_val rep t payload x start d
+taken_as rep t payload (Err (Malformed at why)) start quiet d = faults outcome_val rep t payload at why start d
+taken_as rep t payload (Err ReadFault) start quiet d = absurd (omega (arith, quiet, d.cause))
+taken_as rep t payload (Err OutOfMemory) start quiet d = tt

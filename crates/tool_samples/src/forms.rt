@@ -3,12 +3,14 @@ ghost use Rattle.std.specs.Prelude.{◌≡◌, ◌++◌, Ok, Err, IfOk, IfSome, 
 ghost use Rattle.type_trees.specs.View.{tree, val};
 ghost use Rattle.type_rules.specs.Valid.{type_fault};
 ghost use Rattle.xcdr_model.specs.Samples.{sample};
+ghost use Rattle.packed_reader.specs.View.{packed_val};
 ghost use Rattle.tool_samples.specs.lines.Lines as lines;
 
-use crate::lines::{malformed_text, outcome_text, sample_record};
+use crate::lines::{malformed_text, outcome_text, plain_sample_record, sample_record};
 use packed_json::{Plan, write_value};
 use packed_reader::Packed;
 use settled_parts::Outcome;
+use shape_laws::sample_sized;
 use std::alloc::Global;
 use tool_runs::output::{line, record};
 use type_trees::{Value, XType};
@@ -143,13 +145,13 @@ impl Shows for Conversions {
 
     fn plain(
         &self,
-        _alloc: Global,
-        _ty: &XType,
+        alloc: Global,
+        ty: &XType,
         _plan: &Plan,
-        _value: &Packed<'_>,
-        _octets: usize,
+        value: &Packed<'_>,
+        octets: usize,
     ) -> Option<Text> {
-        None
+        plain_record(alloc, self.to, ty, value, octets)
     }
 
     fn malformed(
@@ -171,5 +173,27 @@ fn value_record(alloc: Global, to: Rep, ty: &XType, value: &Value) -> Result<Tex
     match size_of_sample(to, ty, value) {
         None => record(alloc, Kind::Note, b"too-large"),
         Some(_) => sample_record(alloc, to, ty, value),
+    }
+}
+
+// The record of a plain value's sample, or a Note where the sample has too many octets. It mostly has about as many as the sample that was
+// read. None says nothing.
+fn plain_record(
+    alloc: Global,
+    to: Rep,
+    ty: &XType,
+    value: &Packed<'_>,
+    octets: usize,
+) -> Option<Text>
+    ensures { IfSome result (λ text. text ≡ lines.converted to (tree ty.now) (Ok (sample (packed_val value.now)))) }
+{
+    sample_sized();
+    let text = plain_sample_record(alloc, to, ty, value, octets.min(MOST_OCTETS) + 64)?;
+    if text.len() <= MOST_OCTETS + 5 {
+        return Some(text);
+    }
+    match record(alloc, Kind::Note, b"too-large") {
+        Ok(note) => Some(note),
+        Err(_) => None,
     }
 }

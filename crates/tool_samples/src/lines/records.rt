@@ -1,12 +1,15 @@
-ghost use Rattle.std.specs.Prelude.{◌≡◌, ◌≤◌, ◌++◌, IfOk, OnOk, OnErr};
+ghost use Rattle.std.specs.Prelude.{◌≡◌, ◌≤◌, ◌++◌, IfOk, IfSome, OnOk, OnErr};
 ghost use Rattle.std.specs.Io.KnownBytes.{Appends};
 ghost use Rattle.xt_io.specs.Outside.{AppendsAll, AppendsPrefix, HasCause};
 ghost use Rattle.tool_runs.specs.output.Runs.{HaltsWriting};
 ghost use Rattle.type_trees.specs.View.{val};
 ghost use Rattle.type_trees.specs.Bridge.{type_shape};
 ghost use Rattle.xcdr_model.specs.SampleSpelling.{fixed_sample, sample_size};
+ghost use Rattle.packed_reader.specs.View.{packed_val};
 ghost use Rattle.xt_io.specs.Records.{head_octets, record_octets};
 
+use packed_reader::Packed;
+use packed_writer::write_plain;
 use shape_laws::sample_sized;
 use std::alloc::Global;
 use tool_runs::output::{Halt, record};
@@ -39,6 +42,26 @@ fn sample_head(octets: u32) -> [u8; 5]
 {
     let [first, second, third, fourth] = octets.to_be_bytes();
     [Kind::Sample.octet(), first, second, third, fourth]
+}
+
+/// The record of a plain value's sample in little-endian order. The sample takes memory for so many octets at once. None says nothing.
+pub fn plain_sample_record(
+    alloc: Global,
+    rep: Rep,
+    ty: &XType,
+    value: &Packed<'_>,
+    octets: usize,
+) -> Option<Text>
+    ensures { IfSome result (λ piece. piece ≡ record_octets Kind.Sample (fixed_sample rep Order.Little (type_shape ty.now) (packed_val value.now))) }
+{
+    let Ok(front) = Vec::with_capacity(alloc, octets) else {
+        return None;
+    };
+    let sample = write_plain(rep, ty, value, front)?;
+    match record(alloc, Kind::Sample, sample.as_slice()) {
+        Ok(piece) => Some(piece),
+        Err(_) => None,
+    }
 }
 
 // A head, and the sample of a value behind it.
