@@ -69,7 +69,10 @@ fn both(alloc: Global, first: &[u8], second: &[u8]) -> Option<Row<Fetched>>
     let mut pool = Pool::new(alloc);
     let _first = pool.add(first).ok()?;
     let _second = pool.add(second).ok()?;
-    objects_of(alloc, &pool).ok()
+    match objects_of(alloc, &pool) {
+        Ok(objects) => Some(objects),
+        Err(_) => None,
+    }
 }
 
 // Whether each of the two objects is found in the registry.

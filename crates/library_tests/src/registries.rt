@@ -6,9 +6,7 @@ use crate::objects::{COLOR, object};
 use object_formats::ObjectRule;
 use std::alloc::Global;
 use std::thread;
-use type_registry::{
-    Finding, Kept, Md5Naming, Naming, ObjectFault, Pass, RegisterFault, Registry, agree,
-};
+use type_registry::{Finding, Kept, Md5Naming, Naming, Pass, RegisterFault, Registry, agree};
 use type_trees::HashId;
 use xt_lists::OutOfMemory;
 
@@ -151,10 +149,11 @@ fn another_pass_finds_what_the_first_registered(rt: HostRuntime) {
 fn a_text_that_is_cut_is_no_object(rt: HostRuntime) {
     let registry: Registry<Md5Naming> = Registry::new(rt.alloc());
     let mut pass = registry.pass(rt.alloc());
-    let cut = &COLOR[..38];
+    let whole = COLOR;
+    let cut = &whole[..38];
     match registry.register(rt.alloc(), &mut pass, cut) {
-        Err(RegisterFault::NotAnObject(ObjectFault::Not { at, rule })) => {
-            assert!(rt; at == 35 && rule == ObjectRule::Short);
+        Err(RegisterFault::NotAnObject(fault)) => {
+            assert!(rt; fault.at == 35 && fault.rule == ObjectRule::Short);
         }
         _ => panic!(rt; "taken for an object"),
     }
