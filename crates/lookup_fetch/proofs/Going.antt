@@ -1,5 +1,5 @@
 -- The rounds of a fetch, one after another.
-use Rattle.std.proofs.Common.{◌≡◌, ℕ, ◌+◌, List, [], ◌∷◌, ◌++◌, Option, Result, refl, sym, ap, ap₂, subst, ◌∙◌, append_assoc, append-nil}
+use Rattle.std.proofs.Common.{◌≡◌, ℕ, ◌+◌, ◌≤◌, List, [], ◌∷◌, ◌++◌, length, Option, Result, refl, sym, ap, ap₂, subst, ◌∙◌, append_assoc, append-nil, length-append, arith}
 use Rattle.std.specs.Prelude.{None, Some, Ok, Err, cond}
 use Rattle.std.specs.Io.KnownBytes.{append_known, IsAtEnd}
 use Rattle.type_trees.specs.declared.types.HashId.{HashId}
@@ -48,7 +48,7 @@ AreFrames-append octets more (m ∷ ms) ns first all = (first.0 ++ more, stands 
 
 module _ (ids : List HashId) (tag : ℕ) (held : Texts) (left : Option (List ℕ)) where
   pub no_memory : Fetches ids tag held [] [] left (Err OutOfMemory)
-  no_memory = record { messages = []; ahead = []; behind = []; cut = refl; read = refl; answers = (frames_of (rounds ids tag held []).requests, refl); closed = tt }
+  no_memory = record { messages = []; ahead = []; behind = []; cut = refl; read = refl; none_more = omega arith; answers = (frames_of (rounds ids tag held []).requests, refl); closed = tt }
 
   pub too_many : Many ≡ plan (found_in held) ids → Fetches ids tag held [] [] left (Err TooMany)
   unfolding rounds
@@ -58,6 +58,7 @@ module _ (ids : List HashId) (tag : ℕ) (held : Texts) (left : Option (List ℕ
     behind = [];
     cut = refl;
     read = refl;
+    none_more = omega arith;
     answers = subst (λ (n : Next). Answers (unanswered tag n) [] [] left (Err TooMany)) e (record { whole = refl; end_is = refl; none = refl });
     closed = tt;
   }
@@ -70,6 +71,7 @@ module _ (ids : List HashId) (tag : ℕ) (held : Texts) (left : Option (List ℕ
     behind = [];
     cut = refl;
     read = refl;
+    none_more = omega arith;
     answers = subst (λ (n : Next). Answers (unanswered tag n) [] [] left (Ok objects)) e (record { whole = refl; end_is = refl; none = refl });
     closed = ap (λ (o : Texts). closure (found_in o) ids) (append-nil held) ∙ is;
   }
@@ -94,6 +96,7 @@ no_reply ids tag held asked octets sent left fault e h = record {
   behind = octets;
   cut = refl;
   read = refl;
+  none_more = omega arith;
   answers = subst (λ (n : Next). Answers (unanswered tag n) sent octets left (Err fault)) e (unanswered_so tag asked octets sent left fault h);
   closed = tt;
 }
@@ -115,6 +118,9 @@ refused_so request end after sent left OutOfMemory whole h =
     let others = frames_of (unless_fault end after).requests in
     (others, ap (λ (o : List ℕ). o ++ others) (sym whole))
 
+one_asked : (request : Message) (after : Rounds) → 1 ≤ length (asks (request ∷ []) after).requests
+one_asked request after = omega arith
+
 -- the reply to the request is refused
 pub bad_reply : (ids : List HashId) (tag : ℕ) (held : Texts) (asked : List HashId) (reply : Message) (octets sent : List ℕ) (left : Option (List ℕ)) (fault : FetchFault) → Ask asked ≡ plan (found_in held) ids → sent ≡ frame_of (GetTypes tag asked) → front octets ≡ framed reply []
     → IsFault (reply_fault tag asked reply) fault → Fetches ids tag held octets sent left (Err fault)
@@ -127,6 +133,7 @@ bad_reply ids tag held asked reply octets sent left fault e whole read h =
       behind = [];
       cut = sym (append-nil octets);
       read = ([], read, refl);
+      none_more = subst (λ (n : Next). 1 ≤ length (answered tag n reply after).requests) e (one_asked (GetTypes tag asked) (unless_fault (reply_fault tag asked reply) after));
       answers = subst (λ (n : Next). Answers (answered tag n reply after) sent [] left (Err fault)) e (refused_so (GetTypes tag asked) (reply_fault tag asked reply) after sent left fault whole h);
       closed = tt;
     }
@@ -134,7 +141,7 @@ bad_reply ids tag held asked reply octets sent left fault e whole read h =
 -- ---- one round after others
 
 pub start : (ids : List HashId) (held : Texts) → held ≡ [] → Going ids 1 held [] []
-start ids held none = subst (λ (o : Texts). Going ids 1 o [] []) (sym none) (record { messages = []; requests = []; read = refl; whole = refl; texts = refl; leads = λ later. refl })
+start ids held none = subst (λ (o : Texts). Going ids 1 o [] []) (sym none) (record { messages = []; requests = []; read = refl; whole = refl; as_many = refl; texts = refl; leads = λ later. refl })
 
 asks_more : (requests : List Message) (request : Message) (after : Rounds) → asks requests (asks (request ∷ []) after) ≡ asks (requests ++ request ∷ []) after
 asks_more requests request after = ap (λ (o : List Message). let r : Rounds = record { requests = o; end = after.end } in r) (sym (append_assoc requests (request ∷ []) after.requests))
@@ -153,6 +160,7 @@ goes_on ids tag before now octets sent octets_then sent_then g r = record {
   requests = g.requests ++ GetTypes tag r.asked ∷ [];
   read = one_more octets octets_then g.messages r.reply g.read r.read;
   whole = ap₂ (λ (a b : List ℕ). a ++ b) g.whole (one_sent sent_then (frame_of (GetTypes tag r.asked)) r.whole) ∙ sym (frames-append g.requests (GetTypes tag r.asked ∷ []));
+  as_many = omega (arith, g.as_many, length-append g.messages (r.reply ∷ []), length-append g.requests (GetTypes tag r.asked ∷ []));
   texts = r.held ∙ ap₂ (λ (a b : Texts). a ++ b) g.texts (sym (append-nil (texts_in r.reply))) ∙ sym (brought-append g.messages (r.reply ∷ []));
   leads = λ later.
       ap (rounds ids 1 []) (append_assoc g.messages (r.reply ∷ []) later) ∙ g.leads (r.reply ∷ later)
@@ -188,6 +196,8 @@ fetched ids tag held octets sent octets_then sent_then left result g f = record 
   behind = f.behind;
   cut = ap (λ (o : List ℕ). octets ++ o) f.cut ∙ sym (append_assoc octets f.ahead f.behind);
   read = AreFrames-append octets f.ahead g.messages f.messages g.read f.read;
+  none_more = subst (λ (all : Rounds). length (g.messages ++ f.messages) ≤ length all.requests) (sym (g.leads f.messages))
+      (omega (arith, g.as_many, f.none_more, length-append g.messages f.messages, length-append g.requests (rounds ids tag held f.messages).requests));
   answers = subst (λ (all : Rounds). Answers all (sent ++ sent_then) f.behind left result) (sym (g.leads f.messages)) (answers_after g.requests (rounds ids tag held f.messages) sent sent_then g.whole f.behind left result f.answers);
   closed = subst (λ (o : Texts). HasClosure o ids result) (ap (λ (o : Texts). o ++ brought f.messages) g.texts ∙ sym (brought-append g.messages f.messages)) f.closed;
 }

@@ -1,5 +1,5 @@
 -- A fetch over a link: the octets that were read and sent, and what it answers (own).
-use Rattle.std.specs.Prelude.{◌≡◌, ◌≤◌, ℕ, List, [], ◌++◌, Option, Some, Result, Ok, Err, IsErrOf}
+use Rattle.std.specs.Prelude.{◌≡◌, ◌≤◌, ℕ, List, [], ◌++◌, length, Option, Some, Result, Ok, Err, IsErrOf}
 use Rattle.std.specs.Io.KnownBytes.{append_known, IsAtEnd}
 use Rattle.xt_io.specs.Outside.{Rose}
 use Rattle.type_trees.specs.declared.types.HashId.{HashId}
@@ -59,13 +59,15 @@ abbrev pub HasClosure : Texts → List HashId → Result (List Fetched) FetchFau
 HasClosure texts ids (Ok objects) = closure (found_in texts) ids ≡ Some objects
 HasClosure texts ids (Err fault) = Unit {0}
 
--- A fetch of these identifiers from a tag on, where these texts are held: the messages that it read, and the octets behind them.
+-- A fetch of these identifiers from a tag on, where these texts are held: the messages that it read, no more than there are requests, and the octets
+-- behind them.
 pub record Fetches (ids : List HashId) (tag : ℕ) (held : Texts) (octets sent : List ℕ) (left : Option (List ℕ)) (result : Result (List Fetched) FetchFault) : Type 0 where
   pub messages : List Message
   pub ahead : List ℕ
   pub behind : List ℕ
   pub cut : octets ≡ ahead ++ behind
   pub read : AreFrames ahead messages
+  pub none_more : length messages ≤ length (rounds ids tag held messages).requests
   pub answers : Answers (rounds ids tag held messages) sent behind left result
   pub closed : HasClosure (held ++ brought messages) ids result
 

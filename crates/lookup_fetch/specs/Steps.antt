@@ -1,5 +1,5 @@
 -- One round of a fetch over a link, and the rounds so far (own).
-use Rattle.std.specs.Prelude.{◌≡◌, ℕ, List, [], ◌++◌, Option, Some, None, Result, Ok, Err}
+use Rattle.std.specs.Prelude.{◌≡◌, ℕ, List, [], ◌++◌, length, Option, Some, None, Result, Ok, Err}
 use Rattle.std.specs.Io.KnownBytes.{IsAtEnd}
 use Rattle.type_trees.specs.declared.types.HashId.{HashId}
 use Rattle.type_object.specs.Pools.{Texts}
@@ -74,6 +74,7 @@ pub record Going (ids : List HashId) (tag : ℕ) (held : Texts) (octets sent : L
   pub requests : List Message
   pub read : AreFrames octets messages
   pub whole : sent ≡ frames_of requests
+  pub as_many : length messages ≡ length requests
   pub texts : held ≡ brought messages
   pub leads : (later : List Message) → rounds ids 1 [] (messages ++ later) ≡ asks requests (rounds ids tag held later)
 
