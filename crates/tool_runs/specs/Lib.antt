@@ -1,4 +1,5 @@
 pub mod front
 pub mod output
 pub mod Commands
+pub mod Leaving
 pub mod Stopping

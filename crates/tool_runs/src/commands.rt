@@ -1,12 +1,14 @@
 //! Commands that read a bundle: with a body, a turn for each of its records; without one, one answer.
-ghost use Rattle.std.specs.Prelude.{◌≡◌, ◌≤◌, ◌+◌, ℕ, List, Ok, Some, None, length};
+ghost use Rattle.std.specs.Prelude.{◌≡◌, ◌≤◌, ◌+◌, ℕ, List, Ok, Some, None, IfSome, OnErr, OnOk, length};
 ghost use Rattle.std.specs.List.{concat};
 ghost use Rattle.std.specs.Option.{option_map};
 ghost use Rattle.std.specs.Io.KnownBytes.{IsAtEnd};
 ghost use Rattle.xt_io.specs.Bundles.{bundle, nothing};
 ghost use Rattle.tool_runs.specs.output.Outputs.{Output, after_pieces, unless_refused};
 ghost use Rattle.tool_runs.specs.output.Runs.{Halts, HaltsWriting, MayGo, Steps, StopsWriting, Writes, coming, turns_left};
+ghost use Rattle.tool_runs.specs.front.Fronts.{closed};
 ghost use Rattle.tool_runs.specs.front.Reading.{AreWithin};
+ghost use Rattle.tool_runs.specs.Leaving.{Leaves, LeavesBody, LeavesNothing};
 ghost use Rattle.tool_runs.specs.Commands.{body_behind, command_output, ends_behind, with_body, with_end};
 ghost use Rattle.tool_runs.specs.Stopping.{Concludes, StopsSo};
 
@@ -126,6 +128,9 @@ pub fn body_command<P: Prepares, S: Source, K: Sink>(
 
     // A run that is done read its input to the end.
     ensures ended { result ≡ Ok Ending.Done → IsAtEnd (S.left input.new) }
+
+    // Where the records of its front are refused, nothing is read behind the head at which the body begins.
+    ensures leaves { OnOk result (Leaves (LeavesBody (P.prepared command.now)) (option_map bundle (S.left input.old)) (S.left input.new)) }
     ensures halts { Halts (S.faults input.old) (S.faults input.new) (K.faults output.old) (K.faults output.new) result }
     ensures same { K.name output.new ≡ K.name output.old }
 {
@@ -146,6 +151,7 @@ fn after_front<P: Prepares, S: Source, K: Sink>(
     requires few { reader.may_follow ≤ 1048576 }
     ensures output { Writes (option_map (command_output P.Run.style (body_behind (P.prepared command.now))) reader.ahead) result.1 (K.taken sink.old) (K.taken sink.new) }
     ensures ended { result.1 ≡ Ok Ending.Done → IsAtEnd result.0.left }
+    ensures leaves { OnOk result.1 (Leaves (LeavesBody (P.prepared command.now)) reader.ahead result.0.left) }
     ensures halts { Halts reader.faults result.0.faults (K.faults sink.old) (K.faults sink.new) result.1 }
     ensures same_source { result.0.name ≡ reader.name }
     ensures same_sink { K.name sink.new ≡ K.name sink.old }
@@ -157,7 +163,7 @@ fn after_front<P: Prepares, S: Source, K: Sink>(
     }
 }
 
-// What is written behind a front.
+// What is written behind a front. Where its records are refused, the reader stays as it is.
 fn take_body<P: Prepares, S: Source, K: Sink>(
     alloc: Global,
     command: &P,
@@ -170,13 +176,17 @@ fn take_body<P: Prepares, S: Source, K: Sink>(
     requires few { length front.records + turns_left front.next reader.may_follow ≤ 1048576 }
     ensures output { Writes (option_map (λ body. unless_refused P.Run.style (with_body (P.prepared command.now) front.records body)) (coming front.next reader)) result.1 (K.taken sink.old) (K.taken sink.new) }
     ensures ended { result.1 ≡ Ok Ending.Done → IsAtEnd result.0.left }
+    ensures leaves { OnErr (P.prepared command.now front.records) (result.0 ≡ reader) }
     ensures halts { Halts reader.faults result.0.faults (K.faults sink.old) (K.faults sink.new) result.1 }
     ensures same_source { result.0.name ≡ reader.name }
     ensures same_sink { K.name sink.new ≡ K.name sink.old }
 {
     let Front { records, next } = front;
     match command.prepare(alloc, records.as_slice()) {
-        Err(stop) => (reader, stopped(alloc, P::style(), stop, sink)),
+        Err(stop) => {
+            let ended = stopped(alloc, P::style(), stop, sink);
+            (reader, ended)
+        }
         Ok(run) => {
             let number = records.len() as u32;
             run_opened::<P, S, K>(alloc, run, number, next, reader, sink)
@@ -259,6 +269,9 @@ pub fn answer_command<P: Answers, S: Source, K: Sink>(
 
     // A run that is done read its input to the end.
     ensures ended { result ≡ Ok Ending.Done → IsAtEnd (S.left input.new) }
+
+    // Its answer, also a refusal, comes once all was read.
+    ensures leaves { OnOk result (Leaves LeavesNothing (option_map bundle (S.left input.old)) (S.left input.new)) }
     ensures halts { Halts (S.faults input.old) (S.faults input.new) (K.faults output.old) (K.faults output.new) result }
     ensures same { K.name output.new ≡ K.name output.old }
 {
@@ -279,6 +292,7 @@ fn after_front_alone<P: Answers, S: Source, K: Sink>(
     requires few { reader.may_follow ≤ 1048576 }
     ensures output { Writes (option_map (command_output P.style (ends_behind (P.answered command.now))) reader.ahead) result.1 (K.taken sink.old) (K.taken sink.new) }
     ensures ended { result.1 ≡ Ok Ending.Done → IsAtEnd result.0.left }
+    ensures leaves { OnOk result.1 (Leaves LeavesNothing reader.ahead result.0.left) }
     ensures halts { Halts reader.faults result.0.faults (K.faults sink.old) (K.faults sink.new) result.1 }
     ensures same_source { result.0.name ≡ reader.name }
     ensures same_sink { K.name sink.new ≡ K.name sink.old }
@@ -303,6 +317,7 @@ fn answer_behind<P: Answers, S: Source, K: Sink>(
     requires few { length front.records + turns_left front.next reader.may_follow ≤ 1048576 }
     ensures output { Writes (option_map (λ body. unless_refused P.style (with_end (P.answered command.now) front.records body)) (coming front.next reader)) result.1 (K.taken sink.old) (K.taken sink.new) }
     ensures ended { result.1 ≡ Ok Ending.Done → IsAtEnd result.0.left }
+    ensures leaves { OnOk result.1 (IfSome (coming front.next reader) (λ body. OnOk (closed body) (IsAtEnd result.0.left))) }
     ensures halts { Halts reader.faults result.0.faults (K.faults sink.old) (K.faults sink.new) result.1 }
     ensures same_source { result.0.name ≡ reader.name }
     ensures same_sink { K.name sink.new ≡ K.name sink.old }

@@ -3,9 +3,16 @@ use Rattle.tool_runs.specs.declared.output.ending.Style.{Style}
 use Rattle.tool_runs.specs.Commands.{body_behind}
 use Rattle.tool_runs.specs.Stopping.{Concludes}
 use Rattle.tool_runs.proofs.Joined.{front_stops}
+use Rattle.tool_runs.proofs.Left.{front_stopped, body_left}
 use Rattle.tool_runs.proofs.commands.after_front.Goals as goal
 
 pub returns-in-Err-clause-output : goal.returns-in-Err-clause-output
 returns-in-Err-clause-output g c =
     let ends = subst (λ (s : Style). Concludes s c.in-Err.stop c.stopped.result (g.K.Sink.taken c.args.sink.now) (g.K.Sink.taken c.stopped.new.sink)) c.style.ensures c.stopped.ensures.concludes in
     front_stops g.P.Run.Turns.style (body_behind (g.P.Prepares.prepared c.args.command.now)) c.args.reader.ahead c.in-Err.stop c.read_front.new.reader c.stopped.result (g.K.Sink.taken c.args.sink.now) (g.K.Sink.taken c.stopped.new.sink) c.in-Err.ensures.front ends
+
+pub returns-in-Err-clause-leaves : goal.returns-in-Err-clause-leaves
+returns-in-Err-clause-leaves g c = front_stopped _ _ _ c.in-Err.stop c.read_front.new.reader c.stopped.result _ _ _ c.in-Err.ensures.front c.stopped.ensures.concludes
+
+pub returns-in-Ok-clause-leaves : goal.returns-in-Ok-clause-leaves
+returns-in-Ok-clause-leaves g c = body_left (g.P.Prepares.prepared c.args.command.now) c.args.reader.ahead c.in-Ok.front c.read_front.new.reader c.take_body.result.0 c.in-Ok.ensures.front c.in-Ok.ensures.ready c.take_body.ensures.leaves c.take_body.result.1
