@@ -59,7 +59,7 @@ behind_front P (Some first) read reader left front body = given (coming read.nex
     given (Some behind) front body = subst (λ (f : Result Front Refusal). IfOk f (λ front. P front left)) (sym front) body
 
 -- what holds anyway
-where_ok : {P : Type 0} (result : Result Ending Halt) → P → OnOk result P
+pub where_ok : {P : Type 0} (result : Result Ending Halt) → P → OnOk result P
 where_ok (Ok ending) p = p
 where_ok (Err halt) p = tt
 

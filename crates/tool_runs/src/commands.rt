@@ -129,7 +129,7 @@ pub fn body_command<P: Prepares, S: Source, K: Sink>(
     // A run that is done read its input to the end.
     ensures ended { result ≡ Ok Ending.Done → IsAtEnd (S.left input.new) }
 
-    // Where the records of its front are refused, nothing is read behind the head at which the body begins.
+    // Where the records of its front are refused, what is left begins with the payload of the body's first record.
     ensures leaves { OnOk result (Leaves (LeavesBody (P.prepared command.now)) (option_map bundle (S.left input.old)) (S.left input.new)) }
     ensures halts { Halts (S.faults input.old) (S.faults input.new) (K.faults output.old) (K.faults output.new) result }
     ensures same { K.name output.new ≡ K.name output.old }
@@ -270,7 +270,7 @@ pub fn answer_command<P: Answers, S: Source, K: Sink>(
     // A run that is done read its input to the end.
     ensures ended { result ≡ Ok Ending.Done → IsAtEnd (S.left input.new) }
 
-    // Its answer, also a refusal, comes once all was read.
+    // Where nothing behind its front is refused, its answer, also a refusal, comes once all was read.
     ensures leaves { OnOk result (Leaves LeavesNothing (option_map bundle (S.left input.old)) (S.left input.new)) }
     ensures halts { Halts (S.faults input.old) (S.faults input.new) (K.faults output.old) (K.faults output.new) result }
     ensures same { K.name output.new ≡ K.name output.old }
