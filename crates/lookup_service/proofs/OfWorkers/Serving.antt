@@ -1,14 +1,17 @@
 -- What a door holds of a worker's sessions, one turn after another.
-use Rattle.std.proofs.Common.{◌≡◌, ◌≢◌, ℕ, ◌+◌, ◌≤◌, Bool, List, [], ◌∷◌, ◌++◌, true, false, Option, refl, sym, ap, subst, ◌∙◌, append-nil, append_assoc, length-append, arith}
-use Rattle.std.specs.Prelude.{None, Some}
+use Rattle.std.proofs.Common.{◌≡◌, ◌≢◌, ℕ, ◌+◌, ◌≤◌, Bool, List, [], ◌∷◌, ◌++◌, true, false, length, Option, refl, sym, ap, subst, ◌∙◌, append-nil, append_assoc, length-append, arith}
+use Rattle.std.specs.Prelude.{None, Some, Ok, Err, is_ok}
 use Rattle.xt_io.specs.Outside.{Rose}
-use Rattle.xt_io.specs.Links.{Held, held_of, AppendsEntry, IsNewLink}
+use Rattle.xt_io.specs.Links.{Held, held_of, AppendsEntry, HasNetCause, IsNewLink}
+use Rattle.xt_io.specs.declared.NetFault.{NetFault}
+use Rattle.xt_io.specs.declared.NetFault.TheVariants as net
 use Rattle.type_registry.specs.Passed.{PassView, IsPass}
 use Rattle.lookup_service.specs.declared.ended.Ended.{Ended}
 use Rattle.lookup_service.specs.declared.ended.Ended.TheVariants.{OutOfMemory}
 use Rattle.lookup_service.specs.Sessions.{SessionOver, HasSessionCause}
 use Rattle.lookup_service.proofs.OfChains.Chaining.{session_entry, chain_more, chain_less}
-use Rattle.lookup_service.specs.workers.Served.{IsCounted, IsServed}
+use Rattle.lookup_service.specs.workers.Outcomes.{answer_of}
+use Rattle.lookup_service.specs.workers.Served.{HasServeCause, HoldsTurns, IsCounted, IsServed}
 
 counted_as : (good then : Bool) (turns : ℕ) (entries : List Held) → (then ≡ true → good ≡ true) → IsCounted good turns entries → IsCounted then turns entries
 counted_as true true turns entries worse c = c
@@ -56,8 +59,14 @@ served_early name good i turns s t before (Some all) le is = record {
 }
 
 -- a link was refused before the last turn
-pub served_refused : (name : List ℕ → List ℕ) (good : Bool) (i turns : ℕ) (s t : PassView) (before held kept : Option (List Held)) → kept ≡ held → i ≤ turns → IsServed name good i s t before held → IsServed name false turns s t before kept
-served_refused name good i turns s t before held kept same le is = subst (IsServed name false turns s t before) (sym same) (served_early name good i turns s t before held le is)
+pub served_refused : (name : List ℕ → List ℕ) (good : Bool) (i turns : ℕ) (s t : PassView) (before held kept : Option (List Held)) (fault : NetFault) → kept ≡ held → i ≤ turns → IsServed name good i s t before held → IsServed name (is_ok (answer_of (Err fault))) turns s t before kept
+served_refused name good i turns s t before held kept net.Failed same le is = subst (IsServed name false turns s t before) (sym same) (served_early name good i turns s t before held le is)
+served_refused name good i turns s t before held kept net.OutOfMemory same le is = subst (IsServed name false turns s t before) (sym same) (served_early name good i turns s t before held le is)
+
+-- there is no turn more
+pub served_all : (name : List ℕ → List ℕ) (sufficed : Bool) (i turns : ℕ) (s t : PassView) (before held : Option (List Held)) → i ≡ turns → IsServed name sufficed i s t before held → IsServed name (is_ok (answer_of (Ok sufficed))) turns s t before held
+served_all name true i turns s t before held all is = subst (λ (n : ℕ). IsServed name true n s t before held) all is
+served_all name false i turns s t before held all is = subst (λ (n : ℕ). IsServed name false n s t before held) all is
 
 served_more : (name : List ℕ → List ℕ) (good : Bool) (i : ℕ) (s t u : PassView) (before held now : Option (List Held)) (gb gn lb ln tb tn : Option (List ℕ)) (none faults : ℕ) (end : Ended) → IsPass name t → IsNewLink gb tb none → (good ≡ true → end ≢ OutOfMemory)
     → SessionOver name t u gb gn lb ln tb tn end → HasSessionCause none faults end → AppendsEntry held (held_of gn tn ln faults) now → IsServed name good i s t before held → IsServed name good (i + 1) s u before now
@@ -81,6 +90,25 @@ served_turn name good then i s t u before held kept now gb gn lb ln tb tn none f
     served_more name then i s t u before kept now gb gn lb ln tb tn none faults end sound new m session cause put
     (subst (IsServed name then i s t before) (sym same) (served_as name good then i s t before held worse is))
 
+-- the entries of no turn yet, and of one more
+pub holds_none : (before : Option (List Held)) → HoldsTurns 0 before before
+holds_none None = tt
+holds_none (Some all) = (all, refl, omega arith)
+
+pub holds_turn : (i : ℕ) (before held kept now : Option (List Held)) (entry : Option Held) → kept ≡ held → AppendsEntry kept entry now → HoldsTurns i before held → HoldsTurns (i + 1) before now
+holds_turn i before held kept None entry same put is = tt
+holds_turn i before held kept (Some all) entry same put is =
+    let seen : HoldsTurns i before (Some put.0) = subst (HoldsTurns i before) (sym same ∙ put.2) is in
+    (seen.0, seen.1, omega (arith, ap length put.4, length-append put.0 (put.1 ∷ []), seen.2))
+
 -- what rose since rose in the whole
-pub rose_later : (before between now : ℕ) → before ≤ between → Rose between now → Rose before now
+rose_later : (before between now : ℕ) → before ≤ between → Rose between now → Rose before now
 rose_later before between now later rose = omega (arith, later, rose)
+
+pub cause_refused : {T : Type 0} (before between now : ℕ) (fault : NetFault) → before ≤ between → HasNetCause {T = T} between now (Err fault) → HasServeCause before now (answer_of (Err fault))
+cause_refused before between now net.Failed later cause = record { later = omega (arith, later, cause.later); failed = λ e. rose_later before between now later (cause.failed refl) }
+cause_refused before between now net.OutOfMemory later cause = record { later = omega (arith, later, cause.later); failed = λ e. absurd (cc e) }
+
+pub cause_all : (before now : ℕ) (sufficed : Bool) → before ≤ now → HasServeCause before now (answer_of (Ok sufficed))
+cause_all before now true later = record { later = later; failed = λ e. absurd (cc e) }
+cause_all before now false later = record { later = later; failed = λ e. absurd (cc e) }

@@ -1,12 +1,21 @@
 -- What workers answer together, and what holds of what they work on before and after (own).
-use Rattle.std.specs.Prelude.{◌≡◌, ◌⊎◌, ℕ, List, [], ◌∷◌, Result, Ok, Err}
+use Rattle.std.specs.Prelude.{◌≡◌, ◌⊎◌, ℕ, Bool, true, false, List, [], ◌∷◌, Result, Ok, Err}
 use Rattle.std.specs.Borrow.{MutBor}
 use Rattle.std.specs.Fn.{Shared}
+use Rattle.xt_io.specs.declared.NetFault.{NetFault}
+use Rattle.xt_io.specs.declared.NetFault.TheVariants as net
 use Rattle.lookup_service.specs.declared.workers.faults.ServeFault.{ServeFault}
 use Rattle.lookup_service.specs.declared.workers.faults.ServeFault.TheVariants.{DoorFault, OutOfMemory}
 
 abbrev pub Answer : Type 0
 Answer = Result (Unit {0}) ServeFault
+
+-- What a worker answers: whether memory sufficed in all of its sessions, or why a link was refused.
+abbrev pub answer_of : Result Bool NetFault → Answer
+answer_of (Ok true) = Ok tt
+answer_of (Ok false) = Err OutOfMemory
+answer_of (Err net.Failed) = Err DoorFault
+answer_of (Err net.OutOfMemory) = Err OutOfMemory
 
 -- What two answers come to: a door's fault goes before want of memory.
 abbrev pub both_of : Answer → Answer → Answer

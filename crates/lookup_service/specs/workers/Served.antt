@@ -1,5 +1,5 @@
 -- What workers leave in their seats (own).
-use Rattle.std.specs.Prelude.{◌≡◌, ℕ, ◌≤◌, ◌++◌, Bool, true, false, List, Option, Some, None, length, is_ok, IsErrOf}
+use Rattle.std.specs.Prelude.{◌≡◌, ℕ, ◌+◌, ◌≤◌, ◌++◌, Bool, true, false, List, Option, Some, None, length, is_ok, IsErrOf}
 use Rattle.xt_io.specs.Outside.{Rose}
 use Rattle.xt_io.specs.Links.{Held}
 use Rattle.type_registry.specs.Passed.{PassView, Grows}
@@ -25,6 +25,11 @@ pub record NewEntries (name : List ℕ → List ℕ) (good : Bool) (turns : ℕ)
 abbrev pub IsServed : (List ℕ → List ℕ) → Bool → ℕ → PassView → PassView → Option (List Held) → Option (List Held) → Type 0
 IsServed name good turns first last before None = Unit {0}
 IsServed name good turns first last before (Some all) = NewEntries name good turns first last before all
+
+-- The door has got one entry for each turn, where it tells what it holds.
+abbrev pub HoldsTurns : ℕ → Option (List Held) → Option (List Held) → Type 0
+HoldsTurns turns before None = Unit {0}
+HoldsTurns turns before (Some all) = (old : List Held) × (before ≡ Some old) × (length all ≡ length old + turns)
 
 -- The count of faults never falls, and DoorFault is answered only where it rose.
 pub record HasServeCause (before now : ℕ) (answer : Answer) : Type 0 where

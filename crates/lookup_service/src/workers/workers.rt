@@ -7,7 +7,7 @@ ghost use Rattle.lookup_service.specs.workers.Outcomes.{AllWorked, AnyTwo, witho
 ghost use Rattle.lookup_service.specs.workers.Served.{SeatServed};
 
 use crate::Gate;
-use crate::workers::faults::ServeFault;
+use crate::workers::faults::{ServeFault, answer_told};
 use crate::workers::halves::work_all;
 use crate::workers::seat::Seat;
 use crate::workers::turns::work;
@@ -46,7 +46,7 @@ pub fn serve_workers<'r, R: Threads + Sync, N: Naming, D: Door, G: Gate>(
         &|seat| -> Result<(), ServeFault>
             requires { (D.out seat.now.door ≡ false) × (seat.now.pass.registry ≡ registry.now) }
             ensures { SeatServed N.name D.held D.faults D.out (λ seat. seat.door) (λ seat. seat.pass) turns seat.entry.now seat.exit.now result }
-        { work(alloc, registry, seat, turns, gate) },
+        { answer_told(work(alloc, registry, seat, turns, gate)) },
         seats,
     )?;
     Ok(count * u64::from(turns))
