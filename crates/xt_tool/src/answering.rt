@@ -6,6 +6,7 @@ ghost use Rattle.xt_io.specs.Outside.{Rose};
 ghost use Rattle.tool_runs.specs.output.Outputs.{last_piece};
 ghost use Rattle.tool_words.specs.View.{command_view};
 ghost use Rattle.tool_words.specs.Words as spec;
+ghost use Rattle.xt_tool.specs.Leaving.{IsAnswer, LeavesInput};
 ghost use Rattle.xt_tool.specs.Output.{TakesInput, style_asked, unread_output};
 ghost use Rattle.xt_tool.specs.Statuses.{AnswersAlone, WritesUnread};
 
@@ -59,6 +60,7 @@ fn answer_told<S: Source, K: Sink>(
     ensures ended { result ≡ Status.Done → IfSome (spec.command_of words.now) TakesInput → IsAtEnd (S.left input.new) }
     ensures unread { WritesUnread (unread_output (spec.command_of words.now)) result (K.taken output.old) (K.taken output.new) }
     ensures left { IsSome (unread_output (spec.command_of words.now)) → (S.left input.new ≡ S.left input.old) × (S.faults input.new ≡ S.faults input.old) }
+    ensures leaves { IsAnswer result → IfSome (spec.command_of words.now) (λ command. LeavesInput command (S.left input.old) (S.left input.new)) }
     ensures read { result ≡ Status.ReadFault → Rose (S.faults input.old) (S.faults input.new) }
     ensures write { result ≡ Status.WriteFault → Rose (K.faults output.old) (K.faults output.new) }
 {
@@ -87,6 +89,7 @@ pub(crate) fn answer_alone<S: Source, K: Sink>(
     ensures ended { result ≡ Status.Done → IfSome (spec.command_of words.now) TakesInput → IsAtEnd (S.left input.new) }
     ensures unread { WritesUnread (unread_output (spec.command_of words.now)) result (K.taken output.old) (K.taken output.new) }
     ensures left { IsSome (unread_output (spec.command_of words.now)) → (S.left input.new ≡ S.left input.old) × (S.faults input.new ≡ S.faults input.old) }
+    ensures leaves { IsAnswer result → IfSome (spec.command_of words.now) (λ command. LeavesInput command (S.left input.old) (S.left input.new)) }
     ensures read { result ≡ Status.ReadFault → Rose (S.faults input.old) (S.faults input.new) }
     ensures write { result ≡ Status.WriteFault → Rose (K.faults output.old) (K.faults output.new) }
     ensures net_fault { result ≡ Status.NetFault → ⊥ }

@@ -1,8 +1,9 @@
-ghost use Rattle.std.specs.Prelude.{◌≡◌, IfSome, IsSome, Ok};
+ghost use Rattle.std.specs.Prelude.{◌≡◌, IfSome, IsSome, Ok, OnOk};
 ghost use Rattle.std.specs.Option.{option_map};
 ghost use Rattle.std.specs.Io.KnownBytes.{IsAtEnd};
 ghost use Rattle.tool_runs.specs.output.Runs.{Ends, Halts, HaltsWriting, Writes};
 ghost use Rattle.tool_words.specs.View.{command_view};
+ghost use Rattle.xt_tool.specs.Leaving.{LeavesInput};
 ghost use Rattle.xt_tool.specs.Output.{asked, bad_words, of_command, unread_command, unread_output, TakesInput};
 ghost use Rattle.xt_tool.specs.Statuses.{EndsUnread};
 
@@ -43,6 +44,7 @@ fn run_command<S: Source, K: Sink>(
     ensures ended { result ≡ Ok Ending.Done → TakesInput (command_view command.entry) → IsAtEnd (S.left input.new) }
     ensures unread { EndsUnread (unread_command (command_view command.entry)) result (K.taken output.old) (K.taken output.new) }
     ensures left { IsSome (unread_command (command_view command.entry)) → (S.left input.new ≡ S.left input.old) × (S.faults input.new ≡ S.faults input.old) }
+    ensures leaves { OnOk result (LeavesInput (command_view command.entry) (S.left input.old) (S.left input.new)) }
     ensures halts { Halts (S.faults input.old) (S.faults input.new) (K.faults output.old) (K.faults output.new) result }
     ensures same { K.name output.new ≡ K.name output.old }
 {
@@ -84,6 +86,7 @@ pub fn run<S: Source, K: Sink>(
     ensures ended { result ≡ Ok Ending.Done → IfSome (option_map command_view command.entry) TakesInput → IsAtEnd (S.left input.new) }
     ensures unread { EndsUnread (unread_output (option_map command_view command.entry)) result (K.taken output.old) (K.taken output.new) }
     ensures left { IsSome (unread_output (option_map command_view command.entry)) → (S.left input.new ≡ S.left input.old) × (S.faults input.new ≡ S.faults input.old) }
+    ensures leaves { OnOk result (IfSome (option_map command_view command.entry) (λ command. LeavesInput command (S.left input.old) (S.left input.new))) }
     ensures halts { Halts (S.faults input.old) (S.faults input.new) (K.faults output.old) (K.faults output.new) result }
     ensures same { K.name output.new ≡ K.name output.old }
 {

@@ -1,4 +1,4 @@
-ghost use Rattle.std.specs.Prelude.{◌≡◌, None};
+ghost use Rattle.std.specs.Prelude.{◌≡◌, None, IfSome};
 ghost use Rattle.std.specs.Io.KnownBytes.{IsAtEnd};
 ghost use Rattle.xt_io.specs.Outside.{Rose};
 ghost use Rattle.tool_nets.specs.Nets.{net_of};
@@ -6,6 +6,7 @@ ghost use Rattle.tool_words.specs.Words.{command_of, net_command_of};
 ghost use Rattle.tool_samples.specs.instances.Laws.{KeepsLast};
 ghost use Rattle.xt_tool.specs.Completeness.{Completeness};
 ghost use Rattle.xt_tool.specs.Headline.{Headline, Refused};
+ghost use Rattle.xt_tool.specs.Leaving.{IsAnswer, LeavesInput};
 ghost use Rattle.xt_tool.specs.Nets.{AnswersIfNet, InputIsLeft, ReadsInput};
 ghost use Rattle.xt_tool.specs.Output.{unread_output};
 ghost use Rattle.xt_tool.specs.Statuses.{AnswersAlone, WritesUnread};
@@ -49,6 +50,9 @@ pub fn xt<R: Threads + Sync, S: Source, K: Sink, N: Net>(
     ensures unread { net_command_of words.now ≡ None → WritesUnread (unread_output (command_of words.now)) result (K.taken output.old) (K.taken output.new) }
     // Words that are no command, and those of `make` and `fetch`, leave the input as it was.
     ensures left { InputIsLeft (net_command_of words.now) (command_of words.now) → (S.left input.new ≡ S.left input.old) × (S.faults input.new ≡ S.faults input.old) }
+    // Where nothing is asked over the net, a command with a body that its types refuse, at a name or a verdict, leaves input that begins with the payload
+    // of the body's first record; one without a body is answered once all was read.
+    ensures leaves { net_command_of words.now ≡ None → IsAnswer result → IfSome (command_of words.now) (λ command. LeavesInput command (S.left input.old) (S.left input.new)) }
     // A fault is answered only where the count rose.
     ensures read { result ≡ Status.ReadFault → Rose (S.faults input.old) (S.faults input.new) }
     ensures write { result ≡ Status.WriteFault → Rose (K.faults output.old) (K.faults output.new) }
