@@ -11,8 +11,8 @@ ghost use Rattle.xt_wire.specs.numbers.Units.{IsUnit};
 ghost use Rattle.packed_writer.specs.Appending.{Appends};
 
 use crate::body::Body;
-use crate::forms::most_of;
 use packed_reader::Packed;
+use xcdr_writer::most_of;
 use xt_shapes::Rep;
 use xt_wire::writer::raw;
 

@@ -4,7 +4,6 @@
 #![tactic(auto)]
 
 mod body;
-mod forms;
 mod leaves;
 mod numbers;
 mod params;

@@ -9,8 +9,8 @@ ghost use Rattle.xt_wire.specs.numbers.Units.{IsUnit};
 ghost use Rattle.packed_writer.specs.Appending.{Appends};
 
 use crate::body::Body;
-use crate::forms::most_of;
 use packed_reader::Numbers;
+use xcdr_writer::most_of;
 use xt_shapes::{Order, Prim, Rep};
 use xt_wire::numbers::{number, prim_size};
 

@@ -6,14 +6,14 @@ ghost use Rattle.packed_writer.specs.Appending.{Appends};
 ghost use Rattle.packed_writer.specs.Params.{short_begun, long_begun};
 
 use crate::body::Body;
-use crate::forms::marked;
+use xcdr_writer::marked;
 
 /// The short form, behind its padding: the member's id, and two octets for the content's length.
 pub(crate) fn put_short(must: bool, id: u32, out: &mut Body) -> Option<()>
     ensures { IfSome result (λ u. Appends (short_begun must id) out.old out.new) }
 {
     out.align(4)?;
-    out.digits(2, marked(must, 0x4000, id as u64) as u128)?;
+    out.digits(2, marked(must, 0x4000, id) as u128)?;
     out.digits(2, 0)
 }
 
@@ -24,7 +24,7 @@ pub(crate) fn put_long(must: bool, id: u32, out: &mut Body) -> Option<()>
     out.align(4)?;
     out.digits(2, 0x7F01)?;
     out.digits(2, 8)?;
-    out.digits(4, marked(must, 0x4000_0000, id as u64) as u128)?;
+    out.digits(4, marked(must, 0x4000_0000, id) as u128)?;
     out.digits(4, 0)
 }
 

@@ -6,11 +6,11 @@ ghost use Rattle.type_trees.specs.Bridge.{type_shape};
 ghost use Rattle.packed_reader.specs.View.{packed_val};
 
 use crate::body::Body;
-use crate::forms::identifier_of;
 use crate::writing::write_value;
 use packed_reader::Packed;
 use type_trees::XType;
-use xt_shapes::Rep;
+use xcdr_writer::identifier_of;
+use xt_shapes::{Order, Rep};
 use xt_wire::numbers::padding;
 
 // Appends the encapsulation, which counts no padding yet.
@@ -18,7 +18,7 @@ fn begun(rep: Rep, ty: &XType, front: Vec<u8>) -> Option<Vec<u8>>
     ensures { IfSome result (λ all. all.items ≡ front.items ++ 0 ∷ identifier rep (type_shape ty.now) Little ∷ 0 ∷ 0 ∷ []) }
 {
     let mut all = front;
-    match all.extend_from_slice(&[0, identifier_of(rep, ty), 0, 0]) {
+    match all.extend_from_slice(&[0, identifier_of(rep, ty, Order::Little), 0, 0]) {
         Ok(()) => Some(all),
         Err(_) => None,
     }

@@ -16,12 +16,12 @@ ghost use Rattle.xcdr_writer.specs.Parts.{slot_in, piece_in, members_of, pieces_
 ghost use Rattle.packed_writer.specs.Appending.{Appends};
 
 use crate::body::Body;
-use crate::forms::{header_of, is_bare, is_must, is_short, length_code};
 use crate::leaves::{put_count, put_presence, write_scalar, write_text};
 use crate::numbers::write_numbers;
 use crate::params::{put_end, put_long, put_short};
 use packed_reader::{Numbers, Packed, PackedSlot};
 use type_trees::{Member, StructType, XType, as_prim};
+use xcdr_writer::{header_of, is_bare, is_must, is_short, length_code};
 use xt_shapes::{Ext, Rep};
 use xt_wire::numbers::{enum_size, mask_size, prim_size, scalar_size};
 
@@ -260,7 +260,7 @@ fn write_present_piece(member: &Member, value: &Packed<'_>, out: &mut Body) -> O
         IfSome result (λ u. Appends (piece_fixed Little (member_head member.now) code (λ w. fixed Little (type_shape member.now.ty) w) (present (packed_val value.now))) out.old out.new) }
 {
     let code = length_code(scalar_size(&member.ty));
-    out.number(4, 4, header_of(is_must(member), code, member.id) as u128)?;
+    out.number(4, 4, header_of(is_must(member), code, member.id))?;
     write_content(&member.ty, code, value, out)
 }
 

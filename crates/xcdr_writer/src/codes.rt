@@ -8,7 +8,7 @@ ghost use Rattle.type_trees.specs.Bridge.{member_head};
 use type_trees::Member;
 
 /// The length code of a content that is a number of `size` octets; that of a content of any length is 4.
-pub(crate) fn length_code(size: u32) -> u32
+pub fn length_code(size: u32) -> u32
     ensures code { result ≡ code_of size }
     ensures most { result ≤ 4 }
 {
@@ -22,7 +22,7 @@ pub(crate) fn length_code(size: u32) -> u32
 }
 
 /// Whether a reader that lacks the member must refuse the sample.
-pub(crate) fn is_must(member: &Member) -> bool
+pub fn is_must(member: &Member) -> bool
     ensures { result ≡ spec.is_must (member_head member.now) }
 {
     member.must_understand || member.key
@@ -37,7 +37,7 @@ fn mark_of(must: bool) -> u128
 
 /// The member header of 32 bits: bit 31 is set where the member must be understood, bits 30 to 28 are the length code, and the
 /// rest is the member's id.
-pub(crate) fn header_of(must: bool, code: u32, id: u32) -> u128
+pub fn header_of(must: bool, code: u32, id: u32) -> u128
     requires { code ≤ 4 }
     ensures { result ≡ bit must * 2 ^ 31 + code * 2 ^ 28 + id }
 {

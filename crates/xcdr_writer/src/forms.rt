@@ -7,7 +7,7 @@ use xt_shapes::Rep;
 
 /// What numbers are aligned to at most.
 #[inline(always)]
-pub(crate) fn most_of(rep: Rep) -> u32
+pub fn most_of(rep: Rep) -> u32
     ensures most { result ≡ parts.most_of rep }
     ensures unit { IsUnit result }
 {
@@ -18,7 +18,7 @@ pub(crate) fn most_of(rep: Rep) -> u32
 }
 
 /// Whether no count of octets stands before a part: one of XCDR1, or one that is `plain`.
-pub(crate) fn is_bare(rep: Rep, plain: bool) -> bool
+pub fn is_bare(rep: Rep, plain: bool) -> bool
     ensures { result ≡ parts.is_bare rep plain }
 {
     match rep {
@@ -28,7 +28,7 @@ pub(crate) fn is_bare(rep: Rep, plain: bool) -> bool
 }
 
 /// Whether the short form of an XCDR1 header holds the member's id and the content's length.
-pub(crate) fn is_short(id: u32, length: u64) -> bool
+pub fn is_short(id: u32, length: u64) -> bool
     ensures { result ≡ parts.is_short id length }
 {
     id <= 0x3F00 && length < 0x1_0000

@@ -10,5 +10,8 @@ mod params;
 mod samples;
 pub mod written;
 
+pub use codes::{header_of, is_must, length_code};
 pub use encoding::encode_value;
-pub use samples::{encode, size_of_sample, write_sample};
+pub use forms::{is_bare, is_short, most_of};
+pub use params::marked;
+pub use samples::{encode, identifier_of, size_of_sample, write_sample};

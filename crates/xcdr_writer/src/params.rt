@@ -12,7 +12,7 @@ use xt_outside::{Failed, Sink};
 use xt_wire::writer::Writer;
 
 /// An id below the must_understand mark.
-fn marked(must: bool, mark: u64, id: u32) -> u64
+pub fn marked(must: bool, mark: u64, id: u32) -> u64
     requires { mark ≤ 2 ^ 30 }
     ensures { result ≡ bit must * mark + id }
 {

@@ -79,7 +79,7 @@ fn big_identifier(rep: Rep, ext: Ext) -> u8
 }
 
 /// The second octet of the encapsulation identifier; the first is 0.
-fn identifier_of(rep: Rep, ty: &XType, order: Order) -> u8
+pub fn identifier_of(rep: Rep, ty: &XType, order: Order) -> u8
     ensures { result ≡ identifier rep (type_shape ty.now) order }
 {
     big_identifier(rep, top_of(ty)) + little_bit(order)
