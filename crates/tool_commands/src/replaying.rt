@@ -40,7 +40,7 @@ impl<'a> Prepares for Replaying<'a> {
     {
         match top_and_pool(alloc, &self.reference, records) {
             Err(stop) => Err(stop),
-            Ok((ty, pool)) => Ok(Replays::new(ty, pool)),
+            Ok((ty, pool)) => Ok(Replays::new(alloc, ty, pool)),
         }
     }
 

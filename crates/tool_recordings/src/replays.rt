@@ -1,44 +1,104 @@
-ghost use Rattle.std.specs.Prelude.{◌≡◌, Some, None, true};
+ghost use Rattle.std.specs.Prelude.{◌≡◌, [], ◌∷◌, Some, None, true, IfSome};
 ghost use Rattle.projection_laws.specs.Premises.{IsValid};
 ghost use Rattle.type_trees.specs.View.{tree};
 ghost use Rattle.type_trees.specs.Bridge.{type_shape};
 ghost use Rattle.xt_recorder.specs.Replaying.{reader_of, state_of};
 ghost use Rattle.xt_recorder.specs.Replays.{State};
-ghost use Rattle.tool_runs.specs.output.Outputs.{Output};
+ghost use Rattle.xt_recorder.specs.Replays.{read_in};
+ghost use Rattle.xt_io.specs.declared.Kind.TheVariants.{Sample};
+ghost use Rattle.tool_runs.specs.output.Outputs.{Output, after_pieces};
 ghost use Rattle.tool_runs.specs.output.Runs.{Steps, StopsWriting};
 ghost use Rattle.type_trees.specs.samples.Tops.{is_top};
+ghost use Rattle.tool_samples.specs.Sampling.{PlansFor};
+ghost use Rattle.tool_samples.specs.lines.Lines.{sample_line};
 ghost use Rattle.tool_recordings.specs.Replaying.{replay_turn, replayed_by};
 
 use crate::lines::say_replayed;
 use crate::refusals::refuse_replay;
+use packed_json::Plan;
 use std::alloc::Global;
-use tool_runs::output::{Stop, Style, Turns, payload_of};
+use tool_runs::output::{Halt, Stop, Style, Turns, payload_of};
+use tool_runs::say_pieces;
+use tool_samples::{payload_line, plan_for};
 use type_object::Pool;
 use type_trees::XType;
 use xt_io::{BundleReader, Head, Item, Kind, Sink, Source};
 use xt_recorder::Replayer;
+use xt_shapes::Rep;
 
 /// What a reader's type makes of recordings: a line for each stream, and one for each sample of those that it is assignable from.
 #[derive(Drop)]
 pub struct Replays {
     replayer: Replayer,
+    plan: Option<Plan>,
+    ghost planned: { PlansFor (reader_of replayer) plan },
 }
 
 impl Replays {
-    /// A reader's type, with the objects of a pool, before any record.
-    pub fn new(reader: XType, pool: Pool) -> Replays
+    /// A reader's type, with the objects of a pool, before any record. Plain samples are shown by a plan of the type, if it has one.
+    pub fn new(alloc: Global, reader: XType, pool: Pool) -> Replays
         requires valid { IsValid reader }
         requires top { is_top (type_shape reader) ≡ true }
         ensures reader { reader_of result.replayer ≡ tree reader }
         ensures state { state_of result.replayer ≡ record { pool = pool; stream = None } }
     {
+        let plan = plan_for(alloc, Rep::Xcdr2, &reader);
         Replays {
             replayer: Replayer::new(reader, pool),
+            plan,
+        }
+    }
+
+    // The representation of a record that is a sample to be read.
+    fn sample_rep(&self, item: &Item) -> Option<Rep>
+        ensures kind { IfSome result (λ rep. item.now.kind ≡ Sample) }
+        ensures rep { IfSome result (λ rep. read_in (state_of self.now.replayer).stream ≡ Some rep) }
+    {
+        match item.kind {
+            Kind::Sample => self.replayer.reads_in(),
+            Kind::Object | Kind::Idl | Kind::Json | Kind::Note => None,
+        }
+    }
+
+    // Writes the line of a sample.
+    fn say_sample<K: Sink>(
+        &self,
+        alloc: Global,
+        rep: Rep,
+        payload: &[u8],
+        sink: &mut K,
+    ) -> Result<(), Stop>
+        ensures steps { (rest : Output) → Steps Style.Lines (Some (after_pieces (sample_line rep (reader_of self.now.replayer) payload.now ∷ []) rest)) (Some rest) result (K.taken sink.old) (K.taken sink.new) }
+        ensures stops { StopsWriting (K.faults sink.old) (K.faults sink.new) result }
+        ensures same { K.name sink.new ≡ K.name sink.old }
+    {
+        match payload_line(alloc, rep, self.replayer.reader(), &self.plan, payload) {
+            Ok(line) => say_pieces(sink, line.octets()),
+            Err(_) => Err(Stop::Halted(Halt::OutOfMemory)),
         }
     }
 
     // Writes the lines of the record of this number. A refusal is not written yet.
     fn take<K: Sink>(
+        &mut self,
+        alloc: Global,
+        number: u32,
+        item: &Item,
+        sink: &mut K,
+    ) -> Result<(), Stop>
+        ensures steps { (more : State → Output) → Steps Style.Lines (Some (replayed_by (reader_of self.old.replayer) number item.now (state_of self.old.replayer) more)) (Some (more (state_of self.new.replayer))) result (K.taken sink.old) (K.taken sink.new) }
+        ensures reader { reader_of self.new.replayer ≡ reader_of self.old.replayer }
+        ensures stops { StopsWriting (K.faults sink.old) (K.faults sink.new) result }
+        ensures same { K.name sink.new ≡ K.name sink.old }
+    {
+        match self.sample_rep(item) {
+            Some(rep) => self.say_sample(alloc, rep, item.payload.octets(), sink),
+            None => self.take_other(alloc, number, item, sink),
+        }
+    }
+
+    // The same, of a record that is no sample to be read.
+    fn take_other<K: Sink>(
         &mut self,
         alloc: Global,
         number: u32,

@@ -6,8 +6,9 @@ ghost use Rattle.projection_laws.specs.Premises.{IsValid};
 ghost use Rattle.xcdr_model.specs.Samples.{read_sample};
 ghost use Rattle.packed_json.specs.Plans.{IsPlanOf, meaning};
 ghost use Rattle.tool_samples.specs.Sampling.{PlansFor, Taken};
+ghost use Rattle.tool_samples.specs.lines.Lines.{sample_line};
 
-use crate::forms::Shows;
+use crate::forms::{Lines, Shows};
 use packed_json::{Plan, plan_of};
 use packed_reader::{may_be_plain, read_plain};
 use settled_parts::Outcome;
@@ -92,5 +93,23 @@ pub(crate) fn payload_piece<F: Shows>(
     match plain_piece(alloc, form, rep, ty, plan, payload) {
         Some(text) => Ok(text),
         None => general_piece(alloc, form, rep, ty, payload),
+    }
+}
+
+/// The line of a sample that stands in memory, by its representation and the reader's type alone.
+pub fn payload_line(
+    alloc: Global,
+    rep: Rep,
+    ty: &XType,
+    plan: &Option<Plan>,
+    payload: &[u8],
+) -> Result<Text, OutOfMemory>
+    requires valid { IsValid ty.now }
+    requires planned { PlansFor (tree ty.now) plan.now }
+    ensures { IfOk result (λ text. text ≡ sample_line rep (tree ty.now) payload.now) }
+{
+    match plan {
+        None => general_piece(alloc, &Lines, rep, ty, payload),
+        Some(plan) => payload_piece(alloc, &Lines, rep, ty, plan, payload),
     }
 }

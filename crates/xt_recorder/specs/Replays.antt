@@ -73,6 +73,11 @@ abbrev pub sample_answer : Result Outcome Fault → Answer
 sample_answer (Ok outcome) = reads outcome
 sample_answer (Err fault) = malformed fault
 
+-- The representation in which samples are read: that of a stream whose type the reader's is assignable from.
+abbrev pub read_in : Option Stream → Option Rep
+read_in None = None
+read_in (Some st) = if st.yes then Some st.rep else None
+
 -- A sample of a stream that is not assignable is passed over. Before the first stream it has no place.
 abbrev pub sample_taken : Tree → State → Option Stream → List ℕ → Step
 sample_taken reader s None payload = Err misplaced

@@ -65,6 +65,17 @@ impl Replayer {
         &self.reader
     }
 
+    /// The representation in which samples are read: that of a stream whose type the reader's is assignable from. None where there was no
+    /// stream yet, or where the samples are passed over.
+    pub fn reads_in(&self) -> Option<Rep>
+        ensures { result ≡ spec.read_in (state_of self.now).stream }
+    {
+        match self.stream {
+            Some(Stream { rep, yes: true }) => Some(rep),
+            Some(Stream { yes: false, .. }) | None => None,
+        }
+    }
+
     // Adds an object. Where it was not there, what was found of a type is forgotten.
     fn add(&mut self, payload: &[u8]) -> Result<HashId, PoolFault>
         ensures ok { IfOk result (λ id. added self.old.pool payload.now ≡ Ok (id, self.new.pool)) }

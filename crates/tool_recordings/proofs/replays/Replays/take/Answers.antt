@@ -1,21 +1,18 @@
-use Rattle.std.proofs.Common.{Some, ◌∙◌}
-use Rattle.type_trees.specs.View.{tree}
-use Rattle.xt_recorder.specs.Answers.{answer}
+use Rattle.std.proofs.Common.{ℕ, List, [], ◌∷◌, Some, subst}
+use Rattle.tool_runs.specs.declared.output.ending.Style.TheVariants.{Lines}
+use Rattle.tool_runs.specs.output.Outputs.{after_pieces}
+use Rattle.tool_runs.specs.output.Runs.{Steps}
+use Rattle.tool_samples.specs.lines.Lines.{sample_line}
 use Rattle.xt_recorder.specs.Replaying.{reader_of, state_of}
-use Rattle.xt_recorder.specs.Replays.{taken}
-use Rattle.tool_recordings.proofs.Stepped.{stepped_on, step_refused}
+use Rattle.tool_recordings.proofs.Stepped.{sample_stepped}
 use Rattle.tool_recordings.proofs.replays.Replays.take.Goals as goal
 
-pub returns-in-Ok-clause-steps : goal.returns-in-Ok-clause-steps
-returns-in-Ok-clause-steps g c more =
+pub returns-in-Some-clause-steps : goal.returns-in-Some-clause-steps
+returns-in-Some-clause-steps g c more =
     let t = reader_of c.args.self.now.replayer in
     let s = state_of c.args.self.now.replayer in
-    let now = state_of c.take.new.self in
-    stepped_on t (tree c.reader.result.now) c.args.number c.args.item.now (taken t s c.args.item.now) (answer c.in-Ok.replayed) now more c.say_replayed.result (g.K.Sink.taken c.args.sink.now) (g.K.Sink.taken c.say_replayed.new.sink)
-    c.in-Ok.ensures.ok (c.reader.ensures.reader ∙ c.in-Ok.ensures.reader) (c.say_replayed.ensures.steps (more now))
-
-pub returns-in-Err-clause-steps : goal.returns-in-Err-clause-steps
-returns-in-Err-clause-steps g c more =
-    let t = reader_of c.args.self.now.replayer in
-    let s = state_of c.args.self.now.replayer in
-    step_refused t c.args.number c.args.item.now (taken t s c.args.item.now) more (Some (more (state_of c.take.new.self))) c.in-Err.fault c.refuse_replay.result (g.K.Sink.taken c.args.sink.now) c.in-Err.ensures.err c.refuse_replay.ensures
+    let result = c.say_sample.result in
+    let old = g.K.Sink.taken c.args.sink.now in
+    let new = g.K.Sink.taken c.say_sample.new.sink in
+    let said = subst (λ (payload : List ℕ). Steps Lines (Some (after_pieces (sample_line c.in-Some.rep t payload ∷ []) (more s))) (Some (more s)) result old new) c.octets.ensures (c.say_sample.ensures.steps (more s)) in
+    sample_stepped t c.args.number c.args.item.now s c.in-Some.rep more result old new c.in-Some.ensures.kind c.in-Some.ensures.rep said
