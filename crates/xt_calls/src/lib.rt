@@ -7,6 +7,7 @@ mod identifiers;
 mod keys;
 mod laws;
 mod opening;
+mod plain;
 mod printing;
 mod readers;
 mod types;

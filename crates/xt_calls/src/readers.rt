@@ -15,6 +15,7 @@ ghost use Rattle.xt_calls.specs.Opened.{front};
 use crate::answers::{
     Answer, DISCARDED, DONE, JSON, MALFORMED, MUST_UNDERSTAND, TOO_LARGE, refuse_words, said,
 };
+use crate::plain::plain_sample;
 use crate::types::Types;
 use crate::words::pair_of;
 use dynamic_data::{ValueFault, from_json, to_json};
@@ -188,8 +189,29 @@ impl Reader {
         }
     }
 
+    // A plain sample as a sample in a representation. None says nothing.
+    fn convert_plain(&self, alloc: Global, to: Rep, sample: &[u8]) -> Option<Answer>
+        ensures { IfSome result (λ answer. answer ≡ spec.converted_answer to (tree self.now.ty) (read_sample self.now.rep (type_shape self.now.ty) sample.now)) }
+    {
+        if self.plan.is_none() {
+            return None;
+        }
+        let value = read_plain(alloc, self.rep, &self.ty, sample)?;
+        plain_sample(alloc, to, &self.ty, &value, sample.len())
+    }
+
     /// The same, as a sample in a representation.
     pub fn convert(&self, alloc: Global, to: Rep, sample: &[u8]) -> Result<Answer, OutOfMemory>
+        ensures { IfOk result (λ answer. answer ≡ spec.converted_answer to (tree self.now.ty) (read_sample self.now.rep (type_shape self.now.ty) sample.now)) }
+    {
+        match self.convert_plain(alloc, to, sample) {
+            Some(answer) => Ok(answer),
+            None => self.convert_general(alloc, to, sample),
+        }
+    }
+
+    // A sample that has to be converted in general.
+    fn convert_general(&self, alloc: Global, to: Rep, sample: &[u8]) -> Result<Answer, OutOfMemory>
         ensures { IfOk result (λ answer. answer ≡ spec.converted_answer to (tree self.now.ty) (read_sample self.now.rep (type_shape self.now.ty) sample.now)) }
     {
         match self.taken(alloc, sample) {
