@@ -1,5 +1,5 @@
 -- The rounds of a push, one after another.
-use Rattle.std.proofs.Common.{◌≡◌, ℕ, ◌+◌, List, [], ◌∷◌, ◌++◌, Option, Result, refl, sym, ap, ap₂, subst, ◌∙◌, append_assoc, append-nil}
+use Rattle.std.proofs.Common.{◌≡◌, ℕ, ◌+◌, ◌≤◌, List, [], ◌∷◌, ◌++◌, length, Option, Result, refl, sym, ap, ap₂, subst, ◌∙◌, append_assoc, append-nil, length-append, arith}
 use Rattle.std.specs.Prelude.{None, Some, Ok, Err}
 use Rattle.type_lookup.specs.declared.messages.messages.Message.{Message}
 use Rattle.type_lookup.specs.messages.Spelling.{frame_of}
@@ -41,7 +41,7 @@ prefix_whole sent frame e = ([], ap (λ (o : List ℕ). o ++ []) (sym e))
 
 -- nothing was asked
 no_memory : (name : List ℕ → List ℕ) (tag : ℕ) (state : State) (left : Option (List ℕ)) → Pushes name tag state [] [] left (Err OutOfMemory)
-no_memory name tag state left = record { messages = []; ahead = []; behind = []; cut = refl; read = refl; answers = (frames_of (rounds name tag state []).requests, refl) }
+no_memory name tag state left = record { messages = []; ahead = []; behind = []; cut = refl; read = refl; none_more = omega arith; answers = (frames_of (rounds name tag state []).requests, refl) }
 
 -- all is told
 all_told : (name : List ℕ → List ℕ) (tag : ℕ) (state : State) (left : Option (List ℕ)) → request tag state ≡ None → Pushes name tag state [] [] left (Ok state.told)
@@ -52,6 +52,7 @@ all_told name tag state left e = record {
   behind = [];
   cut = refl;
   read = refl;
+  none_more = omega arith;
   answers = subst (λ (o : Option Message). Answers (last_round state o) [] [] left (Ok state.told)) (sym e) (record { whole = refl; end_is = refl; none = refl });
 }
 
@@ -59,6 +60,9 @@ unanswered : (state : State) (asked : Message) (octets sent : List ℕ) (left : 
 unanswered state asked octets sent left LinkFault h = prefix_alone sent (frame_of asked) h
 unanswered state asked octets sent left BadReply h = (one_sent sent (frame_of asked) h.0, h.1)
 unanswered state asked octets sent left OutOfMemory h = prefix_alone sent (frame_of asked) h
+
+one_asked : (asked : Message) (after : Rounds) → 1 ≤ length (asks (asked ∷ []) after).requests
+one_asked asked after = omega arith
 
 module _ (name : List ℕ → List ℕ) (tag : ℕ) (state : State) (asked : Message) (is : request tag state ≡ Some asked) (octets sent : List ℕ) (left : Option (List ℕ)) where
   -- what was read is no message
@@ -70,6 +74,7 @@ module _ (name : List ℕ → List ℕ) (tag : ℕ) (state : State) (asked : Mes
     behind = octets;
     cut = refl;
     read = refl;
+    none_more = omega arith;
     answers = subst (λ (o : Option Message). Answers (last_round state o) sent octets left (Err fault)) (sym is) h;
   }
 
@@ -89,6 +94,7 @@ module _ (name : List ℕ → List ℕ) (tag : ℕ) (state : State) (asked : Mes
         behind = [];
         cut = sym (append-nil octets);
         read = ([], h.1, refl);
+        none_more = subst (λ (o : Option Message). 1 ≤ length (round state o (answered name tag state reply) more).requests) (sym is) (one_asked asked (unless_bad (answered name tag state reply) more));
         answers = subst (λ (o : Option Message). Answers (round state o (answered name tag state reply) more) sent [] left (Err BadReply)) (sym is)
             (subst (λ (o : Option State). Answers (asks (asked ∷ []) (unless_bad o more)) sent [] left (Err BadReply)) (sym none) (one_sent sent (frame_of asked) h.0, refl));
       }
@@ -100,6 +106,7 @@ module _ (name : List ℕ → List ℕ) (tag : ℕ) (state : State) (asked : Mes
     requests = asked ∷ [];
     read = ([], h.1, refl);
     whole = one_sent sent (frame_of asked) h.0;
+    as_many = refl;
     leads = λ later.
         ap (λ (o : Option Message). round state o (answered name tag state reply) (λ then. rounds name (tag + 1) then later)) is
         ∙ ap (λ (o : Option State). asks (asked ∷ []) (unless_bad o (λ then. rounds name (tag + 1) then later))) some;
@@ -111,7 +118,7 @@ asks_more : (requests more : List Message) (after : Rounds) → asks requests (a
 asks_more requests more after = ap (λ (o : List Message). let r : Rounds = record { requests = o; end = after.end } in r) (sym (append_assoc requests more after.requests))
 
 going_none : (name : List ℕ → List ℕ) (tag : ℕ) (state : State) → Going name tag state tag state [] []
-going_none name tag state = record { messages = []; requests = []; read = refl; whole = refl; leads = λ later. refl }
+going_none name tag state = record { messages = []; requests = []; read = refl; whole = refl; as_many = refl; leads = λ later. refl }
 
 module _ (name : List ℕ → List ℕ) (tag then : ℕ) (state next : State) (octets sent octets_then sent_then : List ℕ) (g : Going name tag state then next octets sent) where
   going_more : (now : ℕ) (last : State) → Going name then next now last octets_then sent_then → Going name tag state now last (octets ++ octets_then) (sent ++ sent_then)
@@ -120,6 +127,7 @@ module _ (name : List ℕ → List ℕ) (tag then : ℕ) (state next : State) (o
     requests = g.requests ++ h.requests;
     read = AreFrames-append octets octets_then g.messages h.messages g.read h.read;
     whole = ap₂ (λ (a b : List ℕ). a ++ b) g.whole h.whole ∙ sym (frames-append g.requests h.requests);
+    as_many = omega (arith, g.as_many, h.as_many, length-append g.messages h.messages, length-append g.requests h.requests);
     leads = λ later.
         ap (rounds name tag state) (append_assoc g.messages h.messages later) ∙ g.leads (h.messages ++ later) ∙ ap (asks g.requests) (h.leads later)
         ∙ asks_more g.requests h.requests (rounds name now last later);
@@ -144,6 +152,8 @@ module _ (name : List ℕ → List ℕ) (tag then : ℕ) (state next : State) (o
     behind = p.behind;
     cut = ap (λ (o : List ℕ). octets ++ o) p.cut ∙ sym (append_assoc octets p.ahead p.behind);
     read = AreFrames-append octets p.ahead g.messages p.messages g.read p.read;
+    none_more = subst (λ (all : Rounds). length (g.messages ++ p.messages) ≤ length all.requests) (sym (g.leads p.messages))
+        (omega (arith, g.as_many, p.none_more, length-append g.messages p.messages, length-append g.requests (rounds name then next p.messages).requests));
     answers = subst (λ (all : Rounds). Answers all (sent ++ sent_then) p.behind left result) (sym (g.leads p.messages)) (answers_after (rounds name then next p.messages) p.behind left result p.answers);
   }
 

@@ -1,5 +1,5 @@
 -- The requests of a push and their replies over a link, one after another (own).
-use Rattle.std.specs.Prelude.{◌≡◌, ◌+◌, ℕ, List, [], ◌∷◌, ◌++◌, drop, Option, Some, None, Result, Ok, Err}
+use Rattle.std.specs.Prelude.{◌≡◌, ◌+◌, ℕ, List, [], ◌∷◌, ◌++◌, length, drop, Option, Some, None, Result, Ok, Err}
 use Rattle.type_lookup.specs.declared.messages.messages.Fetched.{Fetched}
 use Rattle.type_lookup.specs.declared.messages.messages.Message.{Message}
 use Rattle.type_lookup.specs.Sequences.{frames_of, AreFrames}
@@ -44,6 +44,7 @@ pub record Going (name : List ℕ → List ℕ) (tag : ℕ) (state : State) (tag
   pub requests : List Message
   pub read : AreFrames octets messages
   pub whole : sent ≡ frames_of requests
+  pub as_many : length messages ≡ length requests
   pub leads : (later : List Message) → rounds name tag state (messages ++ later) ≡ asks requests (rounds name tag_now state_now later)
 
 -- the same over a link

@@ -48,13 +48,14 @@ Answers all sent behind left (Err LinkFault) = IsPrefix sent (frames_of all.requ
 Answers all sent behind left (Err BadReply) = (sent ≡ frames_of all.requests) × IsBad all.end behind left
 Answers all sent behind left (Err OutOfMemory) = IsPrefix sent (frames_of all.requests)
 
--- A push from a tag and a state on: the messages that it read, and the octets behind them.
+-- A push from a tag and a state on: the messages that it read, no more than there are requests, and the octets behind them.
 pub record Pushes (name : List ℕ → List ℕ) (tag : ℕ) (state : State) (octets sent : List ℕ) (left : Option (List ℕ)) (result : Result (List Told) PushFault) : Type 0 where
   pub messages : List Message
   pub ahead : List ℕ
   pub behind : List ℕ
   pub cut : octets ≡ ahead ++ behind
   pub read : AreFrames ahead messages
+  pub none_more : length messages ≤ length (rounds name tag state messages).requests
   pub answers : Answers (rounds name tag state messages) sent behind left result
 
 -- the same over a link
