@@ -2,8 +2,8 @@
  *
  * A handle is a struct with one pointer. Begin with XT_NULL; never copy a handle, never write to it. Closing makes it null again; closing a
  * null handle does nothing, and a call on one answers XT_CLOSED. Opening into a handle first frees what it held. A handle may be moved to another
- * place in memory, where the place that it was at is not used again. One handle is for one call at a time. A reader may go to another thread;
- * types stay on theirs. Octets cross as a pointer and a length; where the length is 0 the pointer may be anything, null too. What a call writes to
+ * place in memory, where the place that it was at is not used again. One handle is for one call at a time. It may go to another thread.
+ * Octets cross as a pointer and a length; where the length is 0 the pointer may be anything, null too. What a call writes to
  * does not overlap what it reads.
  *
  * Each call that answers takes room for a text or a sample, and `needed`. Where the answer fits, it stands at the front of the room. Where it

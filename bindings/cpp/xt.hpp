@@ -1,7 +1,7 @@
 /* Ruhvelma for C++17: the calls of xt.h with handles that close themselves, answers as values, and refusals as exceptions.
  *
- * A handle can be moved and not copied; one that was moved from is closed. As xt.h says it, a handle is for one call at a time; a reader may go to
- * another thread, and types stay on theirs. A call copies no input. Refusals are of the class `refused`, or rather of the one of their status. */
+ * A handle can be moved and not copied; one that was moved from is closed. As xt.h says it, a handle is for one call at a time, and may go to another
+ * thread. A call copies no input. Refusals are of the class `refused`, or rather of the one of their status. */
 #ifndef XT_HPP
 #define XT_HPP
 

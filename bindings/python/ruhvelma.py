@@ -12,9 +12,8 @@ A refusal is an exception: Refused, or rather the class of its status, with the 
 The library is the file that the environment variable RUHVELMA_LIBRARY names, or libxt.so beside this file, or the one that the system finds. It is
 loaded by the first call.
 
-Types and readers hold memory of the library until they are closed, by `with`, by close(), or when Python drops them. A reader may be used on any
-thread, one call at a time. Types belong to the thread that made them: a call on another one is a RuntimeError, and types that are dropped there keep
-their memory."""
+Types and readers hold memory of the library until they are closed, by `with`, by close(), or when Python drops them. They may be used on any
+thread; calls of several threads are made in turn."""
 
 from __future__ import annotations
 
@@ -293,6 +292,10 @@ class Held:
     def __exit__(self, kind: type[BaseException] | None, error: BaseException | None, at: TracebackType | None) -> None:
         self.close()
 
+    def __del__(self) -> None:
+        if hasattr(self, "_turn"):
+            self.close()
+
 
 class Types(Held):
     """The types of IDL texts, of the octets of TypeObjects, and of a bundle's records, in this order.
@@ -304,21 +307,11 @@ class Types(Held):
 
     def __init__(self, *texts: str | bytes, objects: Iterable[bytes] = (), bundle: bytes = b"") -> None:
         super().__init__()
-        self._thread = threading.get_ident()
         records = [record(IDL, text) for text in texts] + [record(OBJECT, octets) for octets in objects]
         self._answered("xt_types_open", *octets_of(b"".join(records) + bundle))
 
-    def _own(self) -> ctypes._Pointer[Handle]:
-        if threading.get_ident() != self._thread:
-            raise RuntimeError("types belong to the thread that made them")
-        return super()._own()
-
     def __enter__(self) -> Types:
         return self
-
-    def __del__(self) -> None:
-        if getattr(self, "_thread", None) == threading.get_ident():
-            self.close()
 
     def reader(self, reads: str, writes: str | None = None, rep: int = Rep.XCDR2, policy: int = Policy.STANDARD) -> Reader:
         """A reader of the type `reads`, of samples of the type `writes`, which is the same one unless it is named."""
@@ -362,10 +355,6 @@ class Reader(Held):
 
     def __enter__(self) -> Reader:
         return self
-
-    def __del__(self) -> None:
-        if hasattr(self, "_turn"):
-            self.close()
 
     def read_text(self, sample: bytes) -> str:
         """A sample as the text of its JSON."""

@@ -263,13 +263,14 @@ class OfHandles(TypesCase):
                 gc.collect()
         self.assertEqual(len(closed), 2)
 
-    def test_types_on_another_thread(self):
-        with concurrent.futures.ThreadPoolExecutor(1) as pool:
-            for call in (self.types.idl, self.types.close, lambda: self.types.reader("geo::Pose")):
-                with self.assertRaises(RuntimeError):
-                    pool.submit(call).result()
+    def test_types_on_other_threads(self):
+        types = Types(ONE)
+        with concurrent.futures.ThreadPoolExecutor(4) as pool:
+            self.assertTrue(all(text == types.idl() for text in pool.map(lambda _: types.idl(), range(200))))
+            self.assertTrue(all(value == VALUE for value in pool.map(lambda _: types.reader("geo::Pose").read(SAMPLE), range(200))))
             self.assertEqual(pool.submit(lambda: Types(ONE).reader("geo::Pose").read(SAMPLE)).result(), VALUE)
-        self.assertFalse(self.types.closed)
+            pool.submit(types.close).result()
+        self.assertTrue(types.closed)
 
     def test_a_reader_on_other_threads(self):
         reader = self.reader("geo::Pose")

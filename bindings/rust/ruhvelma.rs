@@ -2,7 +2,7 @@
 //!
 //! It needs no other crate: put the file beside yours, write `mod ruhvelma;`, and link with `-L FOLDER-OF-LIBXT -l static=xt`.
 //!
-//! Types and readers are closed where they are dropped. A reader is `Send`; types stay on their thread, and neither is `Sync`.
+//! Types and readers are closed where they are dropped. Both are `Send`, and neither is `Sync`.
 #![allow(dead_code)]
 
 use std::cell::UnsafeCell;
@@ -216,6 +216,9 @@ pub enum Verdict {
 
 /// The types of a bundle. A word names one: `geo::Pose`, `0/geo::Pose` or `#` and an identifier.
 pub struct Types(Handle);
+
+// SAFETY: a handle of types may go to another thread (`include/xt.h`).
+unsafe impl Send for Types {}
 
 impl Types {
     pub fn open(bundle: &[u8]) -> Result<Types, Refused> {
