@@ -17,31 +17,13 @@ use std::alloc::Global;
 use type_rules::shape_keeps_rules;
 use type_trees::{XType, as_struct};
 use xt_shapes::{Ext, Order, Rep};
-use xt_wire::numbers::top_of;
-
-// Half the second octet of the encapsulation identifier; the other half tells the byte order.
-fn row(rep: Rep, ext: Ext) -> u8
-    ensures { result ≡ model.row_of rep ext }
-{
-    match rep {
-        Rep::Xcdr1 => match ext {
-            Ext::Final => 0,
-            Ext::Appendable => 0,
-            Ext::Mutable => 1,
-        },
-        Rep::Xcdr2 => match ext {
-            Ext::Final => 3,
-            Ext::Appendable => 4,
-            Ext::Mutable => 5,
-        },
-    }
-}
+use xt_wire::numbers::{half_identifier, top_of};
 
 // Whether the second octet of the identifier tells the representation and the extensibility.
 fn is_kind(rep: Rep, ext: Ext, kind: u8) -> bool
     ensures { result ≡ (kind / 2 == model.row_of rep ext) }
 {
-    kind / 2 == row(rep, ext)
+    kind / 2 == half_identifier(rep, ext)
 }
 
 fn order_of(kind: u8) -> Order

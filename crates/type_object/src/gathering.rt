@@ -80,7 +80,8 @@ fn note(seen: &mut IndexSet<HashId>, id: &HashId) -> Result<(), OutOfMemory>
     Ok(())
 }
 
-fn row_of(alloc: Global, ids: &[HashId]) -> Result<Row<HashId>, OutOfMemory>
+/// Identifiers as a list of their own.
+pub fn row_of(alloc: Global, ids: &[HashId]) -> Result<Row<HashId>, OutOfMemory>
     ensures { IfOk result (λ row. row ≡ ids.now) }
 {
     let mut row = Row::new(alloc);

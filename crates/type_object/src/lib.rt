@@ -8,7 +8,7 @@ mod identifiers;
 mod pool;
 pub mod visits;
 
-pub use gathering::references;
+pub use gathering::{references, row_of};
 pub use identifiers::{hash_of, kind_of, named};
 pub use object_formats::{
     Fault, ObjectCase, ObjectFault, ObjectFlag, ObjectLiteral, ObjectMember, ObjectRule,

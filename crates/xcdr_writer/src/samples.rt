@@ -16,7 +16,7 @@ use crate::ends::end_of_value;
 use type_trees::{Value, XType};
 use xt_outside::{Failed, Sink, write_whole};
 use xt_shapes::{Ext, Order, Rep};
-use xt_wire::numbers::top_of;
+use xt_wire::numbers::{half_identifier, top_of};
 use xt_wire::writer::Writer;
 
 /// The number of octets of the whole sample of `value` in that representation, with its encapsulation and final padding; None exactly
@@ -65,17 +65,7 @@ fn big_identifier(rep: Rep, ext: Ext) -> u8
     ensures row { result ≡ 2 * row_of rep ext }
     ensures most { result ≤ 10 }
 {
-    match rep {
-        Rep::Xcdr1 => match ext {
-            Ext::Final | Ext::Appendable => 0,
-            Ext::Mutable => 2,
-        },
-        Rep::Xcdr2 => match ext {
-            Ext::Final => 6,
-            Ext::Appendable => 8,
-            Ext::Mutable => 10,
-        },
-    }
+    2 * half_identifier(rep, ext)
 }
 
 /// The second octet of the encapsulation identifier; the first is 0.

@@ -7,7 +7,7 @@ ghost use Rattle.xt_recorder.specs.Recordings as spec;
 
 use indexmap::IndexSet;
 use std::alloc::Global;
-use type_object::{Pool, references};
+use type_object::{Pool, references, row_of};
 use type_trees::HashId;
 use xt_lists::{OutOfMemory, Row};
 
@@ -68,17 +68,6 @@ fn list(
     list_referred(alloc, pool, levels - 1, id, listed)?;
     listed.insert(*id)?;
     Ok(())
-}
-
-fn row_of(alloc: Global, ids: &[HashId]) -> Result<Row<HashId>, OutOfMemory>
-    ensures { IfOk result (λ row. row ≡ ids.now) }
-{
-    let mut row = Row::new(alloc);
-    row.reserve(ids.len())?;
-    for id in ids {
-        row.push(*id)?;
-    }
-    Ok(row)
 }
 
 /// The identifier and all that it refers to, each once and behind what it refers to, in the order of their texts.

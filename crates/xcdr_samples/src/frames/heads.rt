@@ -11,30 +11,13 @@ ghost use Rattle.xcdr_model.specs.declared.malformed.Why.TheVariants.{Encapsulat
 use xcdr_model::Why;
 use xt_shapes::{Ext, Order, Rep};
 use xt_wire::cursor::{Cursor, DecodeFault, read_octets};
+use xt_wire::numbers::half_identifier;
 
 /// What the encapsulation says: the order of the body's numbers, and how many octets of padding end the sample.
 #[derive(Clone, Copy, Debug)]
 pub struct Head {
     pub order: Order,
     pub padding: u8,
-}
-
-// Half the identifier of samples whose top type has this extensibility.
-fn row_of(rep: Rep, ext: Ext) -> u16
-    ensures { result ≡ spec.row_of rep ext }
-{
-    match rep {
-        Rep::Xcdr1 => match ext {
-            Ext::Final => 0,
-            Ext::Appendable => 0,
-            Ext::Mutable => 1,
-        },
-        Rep::Xcdr2 => match ext {
-            Ext::Final => 3,
-            Ext::Appendable => 4,
-            Ext::Mutable => 5,
-        },
-    }
 }
 
 fn order_of(identifier: u16) -> Order
@@ -53,7 +36,7 @@ fn head_of(rep: Rep, ext: Ext, octets: [u8; 4]) -> Option<Head>
 {
     let [first, second, _, last] = octets;
     let identifier = 256 * u16::from(first) + u16::from(second);
-    if identifier / 2 == row_of(rep, ext) {
+    if identifier / 2 == u16::from(half_identifier(rep, ext)) {
         Some(Head {
             order: order_of(identifier % 2),
             padding: last % 4,
