@@ -1,4 +1,5 @@
 pub mod Ends
+pub mod Beside
 pub mod Same
 pub mod Fitting
 pub mod Paired

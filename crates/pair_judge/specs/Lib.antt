@@ -1,2 +1,3 @@
 pub mod Questions
 pub mod Judged
+pub mod Beside

@@ -1,7 +1,7 @@
 -- A question asked of each pair in a pool, what the program's nodes and parts are under it, and the memo that goes with it (this profile's own).
 use Rattle.std.specs.Prelude.{List, Bool, false, IsTrue, map}
 use Rattle.xt_shapes.specs.declared.leaves.Ext.{Ext}
-use Rattle.xt_shapes.specs.Lists.{is_some_and}
+use Rattle.xt_shapes.specs.Lists.{all, is_some_and}
 use Rattle.xt_shapes.specs.Select.{shape_at}
 use Rattle.xt_shapes.specs.Shape.{Shape, structure, union, Members, Cases}
 use Rattle.xcdr_model.specs.declared.verdict.Rule.TheVariants as rules
@@ -19,6 +19,8 @@ use Rattle.pair_memo.specs.nodes.Seen.{shape_in, is_seen, all_parts, arm_in, mem
 use Rattle.pair_memo.specs.nodes.Views.{node_shape, node_seen, part_view, arm_view, parts_in, arms_in, parts_seen, arms_seen}
 use Rattle.pair_memo.specs.Entries.{Entry}
 use Rattle.pair_memo.specs.Memos.{IsMemo}
+use Rattle.pair_judge.specs.Beside.{both_pass, pairs}
+use Rattle.pair_judge.specs.declared.branches.Branches.{Branches}
 use Rattle.pair_judge.specs.declared.question.Question.{Question}
 
 -- the memo says of pairs what is so under the question
@@ -70,6 +72,9 @@ PartsSeen x ps = IsTrue (parts_seen x.pool.now ps)
 
 abbrev pub ArmsSeen : Question → List Arm → Type 0
 ArmsSeen x cs = IsTrue (arms_seen x.pool.now cs)
+
+abbrev pub BranchesSeen : Question → Branches → Type 0
+BranchesSeen x b = IsTrue (all (both_pass (λ t. is_seen x.pool.now t)) (pairs b))
 
 abbrev pub StructureSeen : Question → TypeIdentifier → List ObjectMember → Type 0
 StructureSeen x base own = IsTrue (parts_pass (λ t. is_seen x.pool.now t) (all_parts x.pool.now (view.identifier base) (map view.member own)))

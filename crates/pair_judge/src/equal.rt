@@ -1,17 +1,17 @@
-ghost use Rattle.std.specs.Prelude.{◌≡◌, ◌+◌, ◌&&◌, length, IfOk};
+ghost use Rattle.std.specs.Prelude.{◌≡◌, ◌+◌, length, IfOk};
 ghost use Rattle.object_formats.specs.Objects.{hash};
 ghost use Rattle.object_formats.specs.View as view;
-ghost use Rattle.pair_memo.specs.nodes.Views.{part_view, arm_view};
-ghost use Rattle.pair_judge.specs.Questions.{ArmSeen, ArmsSeen, CasesSeen, IsKept, IsSeen, NodeSeen, PartSeen, PartsSeen, StructureSeen, arm_shape, arm_shapes, part_shape, part_shapes, shape_at_node, shape_of, structure_of, union_of};
+ghost use Rattle.pair_memo.specs.nodes.Seen.{shape_in};
+ghost use Rattle.pair_judge.specs.Beside as beside;
+ghost use Rattle.pair_judge.specs.Questions.{BranchesSeen, CasesSeen, IsKept, IsSeen, NodeSeen, StructureSeen, shape_at_node, shape_of, structure_of, union_of};
 ghost use Rattle.pair_memo.specs.Memos.{state_for};
 ghost use Rattle.xcdr_model.specs.Equivalence as spec;
 
+use crate::branches::Branches;
 use crate::question::Question;
-use node_judge::{
-    same_case_head, same_dims, same_ext, same_flags, same_head, same_kind_of_union, same_literals,
-};
+use node_judge::{same_dims, same_ext, same_flags, same_kind_of_union, same_literals};
 use object_formats::{ObjectCase, ObjectMember, TypeIdentifier};
-use pair_memo::nodes::{Arm, Node, Part, cases_of, members_of, node_of};
+use pair_memo::nodes::{Node, cases_of, members_of, node_of};
 use pair_memo::{Kind, Memo, State, Steps};
 use std::sync::ledger::Ledger;
 use type_trees::HashId;
@@ -264,7 +264,7 @@ impl<'p> Question<'p> {
         let two = members_of(self.alloc, self.pool, other, others)?;
         let left = one.as_slice();
         let right = two.as_slice();
-        self.same_members(memo, steps, levels, left, right)
+        self.same_branches(memo, steps, levels, &Branches::Members(left, right))
     }
 
     #[cycle(equal)]
@@ -303,104 +303,35 @@ impl<'p> Question<'p> {
         let two = cases_of(self.alloc, others)?;
         let left = one.as_slice();
         let right = two.as_slice();
-        self.same_cases(memo, steps, levels, left, right)
+        self.same_branches(memo, steps, levels, &Branches::Cases(left, right))
     }
 
+    /// Whether members or cases are equal one by one.
     #[cycle(equal)]
-    fn same_members<L: Ledger>(
+    fn same_branches<L: Ledger>(
         &self,
         memo: &mut Memo,
         steps: &mut Steps<L>,
         levels: u32,
-        left: &[Part<'p>],
-        right: &[Part<'p>],
+        branches: &Branches<'_, 'p>,
     ) -> Result<bool, OutOfMemory>
         requires so { IsKept self.now memo.old }
-        requires left { PartsSeen self.now left.now }
-        requires right { PartsSeen self.now right.now }
-        ensures same { IfOk result (λ b. b ≡ spec.same_members (part_shapes self.now left.now) (part_shapes self.now right.now)) }
+        requires seen { BranchesSeen self.now branches.now }
+        ensures same { IfOk result (λ b. b ≡ beside.same_branches (λ t. shape_in self.now.pool.now t) branches.now) }
         ensures so { IsKept self.now memo.new }
         ensures count { steps.new + length memo.old ≡ steps.old + length memo.new }
     {
-        if left.len() != right.len() {
+        let Some(count) = branches.count() else {
             return Ok(false);
-        }
-        for at in 0..left.len() {
-            if !self.same_member(memo, steps, levels, &left[at], &right[at])? {
+        };
+        for at in 0..count {
+            let Some((left, right)) = branches.types_at(at) else {
+                return Ok(false);
+            };
+            if !self.same(memo, steps, levels, left, right)? {
                 return Ok(false);
             }
         }
         Ok(true)
-    }
-
-    #[cycle(equal)]
-    fn same_member<L: Ledger>(
-        &self,
-        memo: &mut Memo,
-        steps: &mut Steps<L>,
-        levels: u32,
-        left: &Part<'p>,
-        right: &Part<'p>,
-    ) -> Result<bool, OutOfMemory>
-        requires so { IsKept self.now memo.old }
-        requires left { PartSeen self.now left.now }
-        requires right { PartSeen self.now right.now }
-        ensures same { IfOk result (λ b. b ≡ (spec.same_head (part_view left.now).0 (part_view right.now).0 && spec.same_shape (part_shape self.now left.now) (part_shape self.now right.now))) }
-        ensures so { IsKept self.now memo.new }
-        ensures count { steps.new + length memo.old ≡ steps.old + length memo.new }
-    {
-        if !same_head(left, right) {
-            return Ok(false);
-        }
-        self.same(memo, steps, levels, left.ty, right.ty)
-    }
-
-    #[cycle(equal)]
-    fn same_cases<L: Ledger>(
-        &self,
-        memo: &mut Memo,
-        steps: &mut Steps<L>,
-        levels: u32,
-        left: &[Arm<'p>],
-        right: &[Arm<'p>],
-    ) -> Result<bool, OutOfMemory>
-        requires so { IsKept self.now memo.old }
-        requires left { ArmsSeen self.now left.now }
-        requires right { ArmsSeen self.now right.now }
-        ensures same { IfOk result (λ b. b ≡ spec.same_cases (arm_shapes self.now left.now) (arm_shapes self.now right.now)) }
-        ensures so { IsKept self.now memo.new }
-        ensures count { steps.new + length memo.old ≡ steps.old + length memo.new }
-    {
-        if left.len() != right.len() {
-            return Ok(false);
-        }
-        for at in 0..left.len() {
-            if !self.same_case(memo, steps, levels, &left[at], &right[at])? {
-                return Ok(false);
-            }
-        }
-        Ok(true)
-    }
-
-    #[cycle(equal)]
-    fn same_case<L: Ledger>(
-        &self,
-        memo: &mut Memo,
-        steps: &mut Steps<L>,
-        levels: u32,
-        left: &Arm<'p>,
-        right: &Arm<'p>,
-    ) -> Result<bool, OutOfMemory>
-        requires so { IsKept self.now memo.old }
-        requires left { ArmSeen self.now left.now }
-        requires right { ArmSeen self.now right.now }
-        ensures same { IfOk result (λ b. b ≡ (spec.same_case_head (arm_view left.now).0 (arm_view right.now).0 && spec.same_shape (arm_shape self.now left.now) (arm_shape self.now right.now))) }
-        ensures so { IsKept self.now memo.new }
-        ensures count { steps.new + length memo.old ≡ steps.old + length memo.new }
-    {
-        if !same_case_head(left, right) {
-            return Ok(false);
-        }
-        self.same(memo, steps, levels, left.ty, right.ty)
     }
 }

@@ -2,6 +2,7 @@
 //! No type is built: pairs of identifiers are examined, each once for a kind of examination.
 #![tactic(auto)]
 
+mod branches;
 mod enums;
 mod equal;
 mod judge;
