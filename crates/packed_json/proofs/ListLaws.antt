@@ -1,12 +1,12 @@
 -- Lists and literals, one more.
-use Rattle.std.proofs.Common.{◌≡◌, refl, sym, ap, ◌∙◌, ℕ, ℤ, zero, suc, ◌+◌, ◌<◌, Bool, true, false, List, [], ◌∷◌, ◌++◌, ◌||◌, length, drop, get_or, map, subst, arith}
+use Rattle.std.proofs.Common.{◌≡◌, refl, sym, ap, ◌∙◌, ℕ, ℤ, zero, suc, ◌+◌, ◌<◌, Bool, true, false, List, [], ◌∷◌, ◌++◌, ◌||◌, ◌≤◌, length, drop, get_or, map, subst, arith}
 use Rattle.std.proofs.lemmas.Bool.{and_parts, or_parts}
 use Rattle.std.proofs.Math.Seq.{drop-cons}
 use Rattle.std.proofs.Math.Bool.{or-false}
 use Rattle.std.specs.Ordering.{int_eq}
 use Rattle.json.specs.Print.{quoted}
 use Rattle.serde_json.specs.Written.{compact_text, items_text}
-use Rattle.xt_shapes.specs.Vals.{int, text, listed, mapped, struct_of, union_of, Vals, no_vals, one_val, Slot, absent, present, slots_of}
+use Rattle.xt_shapes.specs.Vals.{int, text, listed, mapped, struct_of, union_of, Vals, no_vals, one_val, absent, slots_of}
 use Rattle.type_trees.specs.declared.types.Literal.{Literal}
 use Rattle.type_trees.specs.Trees.{Tree}
 use Rattle.json_values.specs.Names.{name_text}
@@ -14,7 +14,7 @@ use Rattle.json_values.specs.Written.{data_of, vals_data, literal_data}
 use Rattle.packed_reader.specs.declared.values.PackedSlot.{PackedSlot}
 use Rattle.packed_reader.specs.View.{packed_slot}
 use Rattle.packed_json.specs.declared.plan.Named.{Named}
-use Rattle.packed_json.specs.Plans.{Meaning, IsPlanOf, IsListPlanOf, PlansLiterals, list_meaning, vals_text, vals_fit, named_text, has_name, slot_at, are_present}
+use Rattle.packed_json.specs.Plans.{Meaning, IsPlanOf, IsListPlanOf, PlansLiterals, list_meaning, vals_text, vals_fit, named_text, has_name, slot_at}
 
 pub items_are : (t : Tree) (m : Meaning) (later : Bool) (vs : Vals) → IsPlanOf t m → vals_fit m.fits vs ≡ true → vals_text m.text later vs ≡ items_text later (vals_data (data_of t) vs)
 items_are t m later no_vals is fit = refl
@@ -107,13 +107,7 @@ slot_there [] at s within is = absurd (omega arith)
 slot_there (x ∷ ss) zero s within is = ap packed_slot (sym is)
 slot_there (x ∷ ss) (suc at) s within is = slot_there ss at s (omega arith) is
 
-pub not_so_many : (n : ℕ) (ss : List Slot) → ¬ (length ss ≡ n) → are_present n (slots_of ss) ≡ false
-not_so_many zero [] other = absurd (other refl)
-not_so_many zero (s ∷ ss) other = refl
-not_so_many (suc n) [] other = refl
-not_so_many (suc n) (absent ∷ ss) other = refl
-not_so_many (suc n) (present v ∷ ss) other = not_so_many n ss (λ same. other (ap suc same))
-
-pub slots_many : (ss : List PackedSlot) → length (map packed_slot ss) ≡ length ss
-slots_many [] = refl
-slots_many (s ∷ ss) = ap suc (slots_many ss)
+pub slot_past : (ss : List PackedSlot) (at : ℕ) → length ss ≤ at → slot_at (slots_of (map packed_slot ss)) at ≡ absent
+slot_past [] at past = refl
+slot_past (x ∷ ss) zero past = absurd (omega arith)
+slot_past (x ∷ ss) (suc at) past = slot_past ss at (omega arith)

@@ -6,8 +6,7 @@ use Rattle.packed_json.specs.declared.plan.Named.{Named}
 use Rattle.packed_json.specs.declared.plan.Plan as p
 use Rattle.packed_json.specs.declared.plan.Plan.{Plan, the_lemmas}
 use Rattle.packed_json.specs.declared.plan.PlannedMember.{PlannedMember}
-use Rattle.packed_json.specs.declared.plan.Structure.{Structure, out-Structure}
-use Rattle.packed_json.specs.Plans.{meaning, part, parts_of, leaf_meaning, literal_meaning, list_meaning, struct_meaning}
+use Rattle.packed_json.specs.Plans.{meaning, part, leaf_meaning, literal_meaning, list_meaning, struct_meaning}
 
 pub plan_prim : (x : Primitive) → meaning (p.Prim x) ≡ leaf_meaning (int_data (prim_data x))
 plan_prim x = search (rules, the_lemmas)
@@ -24,13 +23,10 @@ plan_enum xs = search (rules, the_lemmas)
 pub plan_list : (b : Box Plan Global) → meaning (p.List b) ≡ list_meaning (meaning b.value)
 plan_list b = search (rules, the_lemmas)
 
-pub plan_struct : (s : Structure) → meaning (p.Struct s) ≡ struct_meaning (parts_of s)
-plan_struct s = search (rules, the_lemmas)
+pub plan_struct : (xs : List PlannedMember) → meaning (p.Struct xs) ≡ struct_meaning (map part xs)
+plan_struct xs = search (rules, the_lemmas)
 
 pub part_is : (m : PlannedMember) → part m ≡ record { at = m.at; key = m.key; value = meaning m.plan }
 part_is m = search (rules, the_lemmas)
 
-pub parts_are : (s : Structure) → let x = out-Structure s in parts_of s ≡ record { count = x.count; parts = map part x.members }
-parts_are s = search (rules, the_lemmas)
-
-pub ruleset plan_rules = (plan_prim, plan_text, plan_mask, plan_enum, plan_list, plan_struct, part_is, parts_are)
+pub ruleset plan_rules = (plan_prim, plan_text, plan_mask, plan_enum, plan_list, plan_struct, part_is)

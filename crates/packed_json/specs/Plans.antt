@@ -1,5 +1,5 @@
 -- What a plan says of a value's JSON (this profile's own).
-use Rattle.std.specs.Prelude.{◌≡◌, ℕ, zero, suc, ℤ, List, [], ◌∷◌, ◌++◌, Bool, true, false, ◌&&◌, ◌||◌, cond, Option, Some, None, slice_get}
+use Rattle.std.specs.Prelude.{◌≡◌, ℕ, zero, suc, ℤ, List, [], ◌∷◌, ◌++◌, Bool, true, false, ◌&&◌, ◌||◌, cond, if◌then◌else◌, drop, Option, Some, None, slice_get}
 use Rattle.std.specs.Borrow.{Bor}
 use Rattle.std.specs.Ordering.{int_eq}
 use Rattle.json.specs.Print.{quoted}
@@ -16,25 +16,19 @@ use Rattle.json_values.specs.Order.{slot_data}
 use Rattle.json_values.specs.Written.{int_data, prim_data, mask_data, octets_data, literal_data, list_data, data_of, json_text}
 use Rattle.packed_json.specs.declared.plan.Named.{Named}
 use Rattle.packed_json.specs.declared.plan.Plan.{Plan, fold-Plan}
-use Rattle.packed_json.specs.declared.plan.Plan.TheOpen.{Plan-F, PlannedMember-F, Structure-F}
+use Rattle.packed_json.specs.declared.plan.Plan.TheOpen.{Plan-F, PlannedMember-F}
 use Rattle.packed_json.specs.declared.plan.PlannedMember.{PlannedMember, fold-PlannedMember}
-use Rattle.packed_json.specs.declared.plan.Structure.{Structure, fold-Structure}
 
 -- the text of a value that fits
 pub record Meaning : Type 0 where
   pub text : Val → List ℕ
   pub fits : Val → Bool
 
--- a member: the slot that it is, what stands before its value, and the value
+-- a member: the slot that it is, what stands before its value behind another member, and the value
 pub record Part : Type 0 where
   pub at : ℕ
   pub key : List ℕ
   pub value : Meaning
-
--- how many members there are, and these in the order of their names
-pub record Parts : Type 0 where
-  pub count : ℕ
-  pub parts : List Part
 
 -- ---- values without parts
 
@@ -89,46 +83,57 @@ slot_at no_slots at = absent
 slot_at (one_slot s ss) zero = s
 slot_at (one_slot s ss) (suc at) = slot_at ss at
 
-abbrev pub slot_text : (Val → List ℕ) → Slot → List ℕ
-slot_text f absent = []
-slot_text f (present v) = f v
+abbrev pub is_there : Slot → Bool
+is_there absent = false
+is_there (present v) = true
+
+abbrev pub is_there_at : Slots → ℕ → Bool
+is_there_at ss at = is_there (slot_at ss at)
 
 abbrev pub slot_fits : (Val → Bool) → Slot → Bool
-slot_fits f absent = false
+slot_fits f absent = true
 slot_fits f (present v) = f v
 
--- the members, and what stands behind them
-abbrev pub parts_text : List Part → Slots → List ℕ → List ℕ
-parts_text [] ss end = end
-parts_text (p ∷ ps) ss end = p.key ++ (slot_text p.value.text (slot_at ss p.at) ++ parts_text ps ss end)
+-- what stands before a value: without its comma, where no member stands before it
+abbrev pub key_behind : Bool → List ℕ → List ℕ
+key_behind true key = key
+key_behind false key = drop 1 key
+
+-- a member, and what stands behind it; an absent one is left out
+abbrev pub part_text : Part → Bool → Slot → (Bool → List ℕ) → List ℕ
+part_text p later absent more = more later
+part_text p later (present v) more = key_behind later p.key ++ (p.value.text v ++ more true)
+
+-- the members, behind others or none, and what stands behind them
+abbrev pub parts_text : List Part → Bool → Slots → (Bool → List ℕ) → List ℕ
+parts_text [] later ss more = more later
+parts_text (p ∷ ps) later ss more = part_text p later (slot_at ss p.at) (λ l. parts_text ps l ss more)
+
+-- the closing brace, behind members or none
+abbrev pub closing : Bool → List ℕ
+closing later = 125 ∷ []
 
 abbrev pub parts_fit : List Part → Slots → Bool
 parts_fit [] ss = true
 parts_fit (p ∷ ps) ss = slot_fits p.value.fits (slot_at ss p.at) && parts_fit ps ss
 
--- n slots, and each is present
-abbrev pub are_present : ℕ → Slots → Bool
-are_present zero no_slots = true
-are_present (suc n) (one_slot (present v) ss) = are_present n ss
-are_present _ _ = false
+abbrev pub struct_text : List Part → Val → List ℕ
+struct_text ps (struct_of ss) = 123 ∷ parts_text ps false ss closing
+struct_text ps _ = []
 
-abbrev pub struct_text : Parts → Val → List ℕ
-struct_text x (struct_of ss) = 123 ∷ parts_text x.parts ss (125 ∷ [])
-struct_text x _ = []
+abbrev pub struct_fits : List Part → Val → Bool
+struct_fits ps (struct_of ss) = parts_fit ps ss
+struct_fits ps _ = false
 
-abbrev pub struct_fits : Parts → Val → Bool
-struct_fits x (struct_of ss) = are_present x.count ss && parts_fit x.parts ss
-struct_fits x _ = false
-
-abbrev pub struct_meaning : Parts → Meaning
-struct_meaning x = record { text = struct_text x; fits = struct_fits x }
+abbrev pub struct_meaning : List Part → Meaning
+struct_meaning ps = record { text = struct_text ps; fits = struct_fits ps }
 
 -- ---- plans
 
 -- One level of a plan.
-module _ (F : Type 0 → Type 0 → Type 0 → Type 0) where
+module _ (F : Type 0 → Type 0 → Type 0) where
   abbrev pub PlanLevel : Type 0
-  PlanLevel = F Meaning Part Parts
+  PlanLevel = F Meaning Part
 
 abbrev pub plan_level : PlanLevel Plan-F → Meaning
 plan_level (Plan-F.Prim p) = leaf_meaning (int_data (prim_data p))
@@ -136,22 +141,16 @@ plan_level Plan-F.Text = leaf_meaning octets_data
 plan_level Plan-F.Mask = leaf_meaning (int_data mask_data)
 plan_level (Plan-F.Enum xs) = literal_meaning xs
 plan_level (Plan-F.List m) = list_meaning m.value
-plan_level (Plan-F.Struct x) = struct_meaning x
+plan_level (Plan-F.Struct ps) = struct_meaning ps
 
 abbrev pub member_level : PlanLevel PlannedMember-F → Part
 member_level m = record { at = m.at; key = m.key; value = m.plan }
 
-abbrev pub structure_level : PlanLevel Structure-F → Parts
-structure_level x = record { count = x.count; parts = x.members }
-
 abbrev pub meaning : Plan → Meaning
-meaning = fold-Plan _ _ _ plan_level member_level structure_level
+meaning = fold-Plan _ _ plan_level member_level
 
 abbrev pub part : PlannedMember → Part
-part = fold-PlannedMember _ _ _ plan_level member_level structure_level
-
-abbrev pub parts_of : Structure → Parts
-parts_of = fold-Structure _ _ _ plan_level member_level structure_level
+part = fold-PlannedMember _ _ plan_level member_level
 
 -- ---- the plan of a type
 
@@ -171,26 +170,35 @@ pub record Writes (m : Meaning) (v : Val) (old new : List ℕ) : Type 0 where
 abbrev pub Entry : Type 0
 Entry = Bor (List ℕ) × ℕ
 
--- the members of a JSON object, under these keys, whatever stands at each position
-abbrev pub entries_by : (ℕ → Data) → List Entry → json.Members
-entries_by f [] = json.no_members
-entries_by f (e ∷ es) = json.member e.0.now (f e.1) (entries_by f es)
+-- the members of a JSON object under these keys, of the positions where there is something, whatever stands there
+abbrev pub entries_by : (ℕ → Bool) → (ℕ → Data) → List Entry → json.Members
+entries_by there f [] = json.no_members
+entries_by there f (e ∷ es) = if there e.1 then json.member e.0.now (f e.1) (entries_by there f es) else entries_by there f es
+
+-- a member goes in, if it is there
+abbrev pub put_if : Bool → List ℕ → Data → json.Members → json.Members
+put_if true name d found = put name d found
+put_if false name d found = found
 
 -- the members from a position on go in one after another, in the order of their names
-abbrev pub put_from : (ℕ → Data) → ℕ → List Member → json.Members → json.Members
-put_from f at [] found = found
-put_from f at (m ∷ ms) found = put_from f (suc at) ms (put (name_text m.name) (f at) found)
+abbrev pub put_from : (ℕ → Bool) → (ℕ → Data) → ℕ → List Member → json.Members → json.Members
+put_from there f at [] found = found
+put_from there f at (m ∷ ms) found = put_from there f (suc at) ms (put_if (there at) (name_text m.name) (f at) found)
 
--- what stands before a member's value
-abbrev pub key_text : Bool → List ℕ → List ℕ
-key_text later name = comma_if later ++ (quoted name ++ 58 ∷ [])
+-- these are the positions of the members, in the order of their names
+abbrev pub IsOrderOf : List Member → List Entry → Type 0
+IsOrderOf ms es = (there : ℕ → Bool) (f : ℕ → Data) → entries_by there f es ≡ put_from there f 0 ms json.no_members
 
--- the part of a member, behind others or none
-pub record IsPlanned (ms : List Member) (later : Bool) (e : Entry) (p : Part) : Type 0 where
+-- what stands before a member's value, behind another member
+abbrev pub key_text : List ℕ → List ℕ
+key_text name = 44 ∷ (quoted name ++ 58 ∷ [])
+
+-- the part of a member
+pub record IsPlanned (ms : List Member) (e : Entry) (p : Part) : Type 0 where
   pub member : Member
   pub there : slice_get ms e.1 ≡ Some member
   pub at : p.at ≡ e.1
-  pub key : p.key ≡ key_text later e.0.now
+  pub key : p.key ≡ key_text e.0.now
   pub value : IsPlanOf (tree member.ty) p.value
 
 -- what stands at each position of a structure's members
@@ -201,9 +209,9 @@ member_data (Some m) s = slot_data (tree m.ty) s
 abbrev pub body_at : List Member → Slots → ℕ → Data
 body_at ms ss at = member_data (slice_get ms at) (slot_at ss at)
 
--- what the parts write is the object of these entries
+-- what the parts write is the object of those entries whose members are there
 abbrev pub PlansMembers : List Member → List Entry → List Part → Type 0
-PlansMembers ms es ps = (ss : Slots) → parts_fit ps ss ≡ true → parts_text ps ss (125 ∷ []) ≡ members_text false (entries_by (body_at ms ss) es)
+PlansMembers ms es ps = (ss : Slots) → parts_fit ps ss ≡ true → parts_text ps false ss closing ≡ members_text false (entries_by (is_there_at ss) (body_at ms ss) es)
 
 -- the texts of literals are their names in quotes
 abbrev pub PlansLiterals : List Literal → List Named → Type 0
@@ -214,12 +222,12 @@ pub record WritesItems (m : Meaning) (vs : List Val) (old new : List ℕ) : Type
   pub fit : vals_fit m.fits (vals_of vs) ≡ true
   pub text : new ≡ old ++ vals_text m.text false (vals_of vs)
 
--- a member's value, and what stands before it
-pub record WritesPart (p : Part) (ss : Slots) (old new : List ℕ) : Type 0 where
+-- a member's value and what stands before it, behind others or none; or nothing, where it is absent
+pub record WritesPart (p : Part) (later : Bool) (ss : Slots) (old new : List ℕ) (now : Bool) : Type 0 where
   pub fits : slot_fits p.value.fits (slot_at ss p.at) ≡ true
-  pub text : new ≡ old ++ (p.key ++ slot_text p.value.text (slot_at ss p.at))
+  pub text : (more : Bool → List ℕ) → new ++ more now ≡ old ++ part_text p later (slot_at ss p.at) more
 
 -- the members of a structure, with the closing brace
 pub record WritesParts (ps : List Part) (ss : Slots) (old new : List ℕ) : Type 0 where
   pub fit : parts_fit ps ss ≡ true
-  pub text : new ≡ old ++ parts_text ps ss (125 ∷ [])
+  pub text : new ≡ old ++ parts_text ps false ss closing

@@ -8,5 +8,5 @@ mod plan;
 mod texts;
 mod writing;
 
-pub use plan::{Named, Plan, PlannedMember, Structure, plan_of};
+pub use plan::{Named, Plan, PlannedMember, plan_of};
 pub use writing::write_value;

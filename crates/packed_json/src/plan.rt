@@ -1,12 +1,12 @@
 //! What is settled of a type once: in which order its members' names come, and what stands before each value.
-ghost use Rattle.std.specs.Prelude.{◌≡◌, ◌<◌, ◌++◌, ◌∷◌, [], ℕ, length, map, false, IfSome};
+ghost use Rattle.std.specs.Prelude.{◌≡◌, ◌<◌, ◌++◌, ◌∷◌, [], ℕ, Bool, length, map, IfSome};
 ghost use Rattle.json.specs.Print.{quoted};
-ghost use Rattle.serde_json.specs.Data.{Data, put, no_members};
+ghost use Rattle.serde_json.specs.Data.{Data};
 ghost use Rattle.type_trees.specs.View.{tree, struct_tree};
 ghost use Rattle.json_values.specs.Names.{name_text};
-ghost use Rattle.packed_json.specs.Plans.{IsPlanOf, IsPlanned, PlansMembers, PlansLiterals, IsListPlanOf, entries_by, put_from, key_text, meaning, part, parts_of, struct_meaning, list_meaning, literal_meaning};
+ghost use Rattle.packed_json.specs.Plans.{IsPlanOf, IsPlanned, IsOrderOf, PlansMembers, PlansLiterals, IsListPlanOf, entries_by, put_if, key_text, meaning, part, struct_meaning, list_meaning, literal_meaning};
 
-use crate::texts::{put, put_comma, put_quoted};
+use crate::texts::{put, put_quoted};
 use std::alloc::Global;
 use std::collections::BTreeMap;
 use type_trees::{Elem, EnumType, Literal, Member, Name, StructType, XType};
@@ -24,7 +24,8 @@ pub enum Plan {
     Enum(Row<Named>),
     /// The items of a sequence or of an array.
     List(Box<Plan>),
-    Struct(Structure),
+    /// The members of a structure, in the order of their names.
+    Struct(Row<PlannedMember>),
 }
 
 /// A literal's value, and its name in quotes.
@@ -34,16 +35,8 @@ pub struct Named {
     pub text: Text,
 }
 
-/// How many members a structure has, and these in the order of their names.
-#[derive(Debug, Drop)]
-#[cycle(plan)]
-pub struct Structure {
-    pub count: usize,
-    pub members: Row<PlannedMember>,
-}
-
-/// A member: its position in declared order, what stands before its value (a comma, where it isn't the first, its name in quotes and a
-/// colon), and how the value is written.
+/// A member: its position in declared order, what stands before its value (a comma, its name in quotes and a colon; the first member that is
+/// written goes without the comma), and how the value is written.
 #[derive(Debug, Drop)]
 #[cycle(plan)]
 pub struct PlannedMember {
@@ -81,22 +74,22 @@ fn plan_literals(alloc: Global, literals: &[Literal]) -> Option<Row<Named>>
     Some(named)
 }
 
-// Lists a member under its name.
+// Lists a member under its name, which no other one has.
 fn put_name<'n>(member: &'n Member, at: usize, order: &mut BTreeMap<&'n [u8], usize>) -> Option<()>
-    ensures { IfSome result (λ u. (f : ℕ → Data) → entries_by f order.new.entries ≡ put (name_text member.now.name) (f at) (entries_by f order.old.entries)) }
+    ensures { IfSome result (λ u. (there : ℕ → Bool) (f : ℕ → Data) → entries_by there f order.new.entries ≡ put_if (there at) (name_text member.now.name) (f at) (entries_by there f order.old.entries)) }
 {
     let Name::Full(full) = &member.name else {
         return None;
     };
     match order.insert(full.octets(), at) {
-        Ok(_) => Some(()),
-        Err(_) => None,
+        Ok(None) => Some(()),
+        Ok(Some(_)) | Err(_) => None,
     }
 }
 
 // The positions of members by their names.
 fn order_of(alloc: Global, members: &[Member]) -> Option<BTreeMap<&[u8], usize>>
-    ensures { IfSome result (λ order. (f : ℕ → Data) → entries_by f order.entries ≡ put_from f 0 members.now no_members) }
+    ensures { IfSome result (λ order. IsOrderOf members.now order.entries) }
 {
     let mut order = BTreeMap::new(alloc);
     for at in 0..members.len() {
@@ -106,30 +99,24 @@ fn order_of(alloc: Global, members: &[Member]) -> Option<BTreeMap<&[u8], usize>>
 }
 
 // What stands before a member's value.
-fn key_of(alloc: Global, is_later: bool, name: &[u8]) -> Option<Text>
-    ensures { IfSome result (λ text. text ≡ key_text is_later name.now) }
+fn key_of(alloc: Global, name: &[u8]) -> Option<Text>
+    ensures { IfSome result (λ text. text ≡ key_text name.now) }
 {
     let mut text = Text::new(alloc);
-    put_comma(is_later, &mut text)?;
+    put(b",", &mut text)?;
     put_quoted(name, &mut text)?;
     put(b":", &mut text)?;
     Some(text)
 }
 
 #[cycle(planning)]
-fn plan_member(
-    alloc: Global,
-    members: &[Member],
-    is_later: bool,
-    name: &[u8],
-    at: usize,
-) -> Option<PlannedMember>
-    ensures { IfSome result (λ p. IsPlanned members.now is_later (name.entry, at) (part p)) }
+fn plan_member(alloc: Global, members: &[Member], name: &[u8], at: usize) -> Option<PlannedMember>
+    ensures { IfSome result (λ p. IsPlanned members.now (name.entry, at) (part p)) }
 {
     if at >= members.len() {
         return None;
     }
-    let key = key_of(alloc, is_later, name)?;
+    let key = key_of(alloc, name)?;
     let plan = plan_of(alloc, &members[at].ty)?;
     Some(PlannedMember { at, key, plan })
 }
@@ -143,13 +130,11 @@ fn plan_members(
     ensures { IfSome result (λ planned. PlansMembers members.now order.now.entries (map part planned)) }
 {
     let mut planned = Row::new(alloc);
-    let mut is_later = false;
     for (name, at) in order.iter() {
-        let member = plan_member(alloc, members, is_later, name, *at)?;
+        let member = plan_member(alloc, members, name, *at)?;
         let Ok(()) = planned.push(member) else {
             return None;
         };
-        is_later = true;
     }
     Some(planned)
 }
@@ -161,10 +146,7 @@ fn plan_structure(alloc: Global, kind: &StructType) -> Option<Plan>
     let members = kind.members.as_slice();
     let order = order_of(alloc, members)?;
     let planned = plan_members(alloc, members, &order)?;
-    Some(Plan::Struct(Structure {
-        count: members.len(),
-        members: planned,
-    }))
+    Some(Plan::Struct(planned))
 }
 
 #[cycle(planning)]

@@ -1,13 +1,13 @@
 //! Values, appended as their plan says.
-ghost use Rattle.std.specs.Prelude.{◌≡◌, ◌++◌, false, map, IfSome};
+ghost use Rattle.std.specs.Prelude.{◌≡◌, ◌++◌, false, map, IfSome, MatchOption};
 ghost use Rattle.serde_json.specs.Written.{comma_if};
-ghost use Rattle.xt_shapes.specs.Vals.{int, text, listed, struct_of, vals_of, slots_of};
+ghost use Rattle.xt_shapes.specs.Vals.{int, text, listed, struct_of, vals_of, slots_of, absent, present};
 ghost use Rattle.json_values.specs.Written.{int_data, prim_data, mask_data, octets_data};
 ghost use Rattle.packed_reader.specs.View.{packed_val, packed_slot, numbers_of};
-ghost use Rattle.packed_json.specs.Plans.{Writes, WritesItems, WritesPart, WritesParts, are_present, leaf_meaning, list_meaning, literal_meaning, meaning, part, parts_of, struct_meaning};
+ghost use Rattle.packed_json.specs.Plans.{Writes, WritesItems, WritesPart, WritesParts, key_behind, leaf_meaning, list_meaning, literal_meaning, meaning, part, slot_at, struct_meaning};
 
 use crate::numbers::{put_list, put_prim, put_whole};
-use crate::plan::{Named, Plan, PlannedMember, Structure};
+use crate::plan::{Named, Plan, PlannedMember};
 use crate::texts::{put, put_comma, put_text};
 use packed_reader::{Numbers, Packed, PackedSlot};
 use type_values::is_of_prim;
@@ -97,56 +97,73 @@ fn write_items(plan: &Plan, values: &[Packed<'_>], out: &mut Text) -> Option<()>
     Some(())
 }
 
-// Whether there are so many slots, and each is present.
-fn are_all_present(count: usize, slots: &[PackedSlot<'_>]) -> bool
-    ensures { result ≡ are_present count (slots_of (map packed_slot slots.now)) }
+// The value that a slot holds. There is none, where the member is absent.
+fn value_at<'s, 'o>(slots: &'s [PackedSlot<'o>], at: usize) -> Option<&'s Packed<'o>>
+    ensures { MatchOption result (slot_at (slots_of (map packed_slot slots.now)) at ≡ absent) (λ v. slot_at (slots_of (map packed_slot slots.now)) at ≡ present (packed_val v.now)) }
 {
-    if slots.len() != count {
-        return false;
+    if at >= slots.len() {
+        return None;
     }
-    for slot in slots {
-        if let PackedSlot::Absent = slot {
-            return false;
-        }
+    match &slots[at] {
+        PackedSlot::Absent => None,
+        PackedSlot::Present(value) => Some(value),
     }
-    true
 }
 
-#[cycle(writing)]
-fn write_member(member: &PlannedMember, slots: &[PackedSlot<'_>], out: &mut Text) -> Option<()>
-    ensures { IfSome result (λ u. WritesPart (part member.now) (slots_of (map packed_slot slots.now)) out.old out.new) }
+// What stands before a member's value, behind others or none.
+fn put_key(is_later: bool, key: &[u8], out: &mut Text) -> Option<()>
+    ensures { IfSome result (λ u. out.new ≡ out.old ++ key_behind is_later key.now) }
 {
-    if member.at >= slots.len() {
-        return None;
+    if is_later {
+        return put(key, out);
     }
-    let PackedSlot::Present(value) = &slots[member.at] else {
-        return None;
+    match key {
+        [] => Some(()),
+        [_, rest @ ..] => put(rest, out),
+    }
+}
+
+// A member, if it is there, behind others or none. Whether one stands before the next is answered.
+#[cycle(writing)]
+fn write_member(
+    member: &PlannedMember,
+    is_later: bool,
+    slots: &[PackedSlot<'_>],
+    out: &mut Text,
+) -> Option<bool>
+    ensures written { IfSome result (λ now. WritesPart (part member.now) is_later (slots_of (map packed_slot slots.now)) out.old out.new now) }
+    ensures left_out { slot_at (slots_of (map packed_slot slots.now)) member.now.at ≡ absent → result ≡ Some is_later }
+{
+    let Some(value) = value_at(slots, member.at) else {
+        return Some(is_later);
     };
-    put(member.key.octets(), out)?;
+    put_key(is_later, member.key.octets(), out)?;
     write_value(&member.plan, value, out)?;
-    Some(())
+    Some(true)
 }
 
 #[cycle(writing)]
 fn write_members(members: &[PlannedMember], slots: &[PackedSlot<'_>], out: &mut Text) -> Option<()>
     ensures { IfSome result (λ u. WritesParts (map part members.now) (slots_of (map packed_slot slots.now)) out.old out.new) }
 {
+    let mut is_later = false;
     for member in members {
-        write_member(member, slots, out)?;
+        is_later = write_member(member, is_later, slots, out)?;
     }
     put(b"}", out)?;
     Some(())
 }
 
 #[cycle(writing)]
-fn write_structure(kind: &Structure, slots: &[PackedSlot<'_>], out: &mut Text) -> Option<()>
-    ensures { IfSome result (λ u. Writes (struct_meaning (parts_of kind.now)) (struct_of (slots_of (map packed_slot slots.now))) out.old out.new) }
+fn write_structure(
+    members: &[PlannedMember],
+    slots: &[PackedSlot<'_>],
+    out: &mut Text,
+) -> Option<()>
+    ensures { IfSome result (λ u. Writes (struct_meaning (map part members.now)) (struct_of (slots_of (map packed_slot slots.now))) out.old out.new) }
 {
-    if !are_all_present(kind.count, slots) {
-        return None;
-    }
     put(b"{", out)?;
-    write_members(kind.members.as_slice(), slots, out)?;
+    write_members(members, slots, out)?;
     Some(())
 }
 
@@ -159,7 +176,8 @@ fn write_list(plan: &Plan, values: &[Packed<'_>], out: &mut Text) -> Option<()>
     Some(())
 }
 
-/// Appends the JSON of a value by its type's plan. None says nothing, and what was appended is to be thrown away.
+/// Appends the JSON of a value by its type's plan; members that are absent are left out. None says nothing, and what was appended is to be thrown
+/// away.
 #[cycle(writing)]
 #[tactic(auto, using(crate::proofs::Meanings::plan_rules, packed_reader::proofs::Views::packed_rules))]
 pub fn write_value(plan: &Plan, value: &Packed<'_>, out: &mut Text) -> Option<()>
@@ -171,7 +189,9 @@ pub fn write_value(plan: &Plan, value: &Packed<'_>, out: &mut Text) -> Option<()
         (Plan::Text, Packed::Text(octets)) => write_text(octets, out),
         (Plan::List(item), Packed::Numbers(numbers)) => write_packed_list(item, numbers, out),
         (Plan::List(item), Packed::List(values)) => write_list(item, values.as_slice(), out),
-        (Plan::Struct(kind), Packed::Struct(slots)) => write_structure(kind, slots.as_slice(), out),
+        (Plan::Struct(members), Packed::Struct(slots)) => {
+            write_structure(members.as_slice(), slots.as_slice(), out)
+        }
         _ => None,
     }
 }

@@ -1,7 +1,7 @@
-use Rattle.std.proofs.Common.{◌≡◌, ◌++◌, drop, map, false, ◌∷◌, []}
+use Rattle.std.proofs.Common.{◌≡◌, ◌++◌, drop, map, false}
 use Rattle.xt_shapes.specs.Vals.{vals_of, slots_of}
 use Rattle.packed_reader.specs.View.{packed_val, packed_slot}
-use Rattle.packed_json.specs.Plans.{meaning, part, vals_text, vals_fit, parts_text, parts_fit}
+use Rattle.packed_json.specs.Plans.{meaning, part, vals_text, vals_fit, parts_text, parts_fit, closing}
 use Rattle.packed_json.proofs.writing.+writing.Given as goal
 
 -- what is there and what is still to come is the whole
@@ -14,5 +14,5 @@ invariant-write_items-loop-value l =
 abbrev pub invariant-write_members-loop-member : goal.invariant-write_members-loop-member
 invariant-write_members-loop-member l =
     let ss = slots_of (map packed_slot l.slots) in
-    (l.out ++ parts_text (map part (drop l.member-index l.members)) ss (125 ∷ []) ≡ l.initial.out ++ parts_text (map part l.members) ss (125 ∷ []))
+    (l.out ++ parts_text (map part (drop l.member-index l.members)) l.is_later ss closing ≡ l.initial.out ++ parts_text (map part l.members) false ss closing)
     × (parts_fit (map part (drop l.member-index l.members)) ss ≡ parts_fit (map part l.members) ss)
