@@ -4,3 +4,4 @@ pub mod Asking
 pub mod TakingIn
 pub mod Exchanging
 pub mod Going
+pub mod Rounding

@@ -25,6 +25,9 @@ const MOST_ROUNDS: u32 = 4097;
 /// object that was not asked for in this round, that comes again in the reply or that is no object's text, WrongHash where an object came
 /// under another identifier than its own, NotServed where a round brought nothing, TooMany where more than 4,096 identifiers were met, and
 /// OutOfMemory for want of memory. After a fault the link is not used again.
+///
+/// From a session that has all of the objects it comes to them, unless the link fails or memory is wanting: `fetches_complete` of type_mirror
+/// is the law.
 pub fn fetch<L: Link>(
     alloc: Global,
     link: &mut L,

@@ -1,3 +1,4 @@
+pub mod OfCompletes
 pub mod OfPairs
 pub mod OfTold
 pub mod Going

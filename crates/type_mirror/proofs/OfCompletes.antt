@@ -1,0 +1,10 @@
+pub mod Among
+pub mod Walks
+pub mod Meeting
+pub mod Serving
+pub mod Ending
+pub mod Answering
+pub mod Session
+pub mod Facing
+pub mod Closing
+pub mod Worked
