@@ -1,5 +1,5 @@
 -- Enumerations and bitmasks (DDS-XTypes 1.3, 7.3.1.1; without a number a literal or flag has the previous one's plus 1).
-use Rattle.std.specs.Prelude.{ℕ, ◌+◌, ℤ, pos, ◌+ℤ◌, int_le, Bool, if◌then◌else◌, nat_le, List, [], ◌∷◌, ◌++◌, Option, Some, None, Result, Ok, Err, codes}
+use Rattle.std.specs.Prelude.{ℕ, ◌+◌, ℤ, pos, ◌+ℤ◌, int_le, if◌then◌else◌, nat_le, List, [], ◌∷◌, ◌++◌, Option, Some, None, Result, Ok, Err, codes}
 use Rattle.type_trees.specs.declared.types.Name.TheVariants as name_of
 use Rattle.type_trees.specs.declared.types.Literal.{Literal}
 use Rattle.type_trees.specs.declared.types.Flag.{Flag}
@@ -16,90 +16,79 @@ use Rattle.idl_definitions.specs.Lists.{with_commas}
 use Rattle.idl_definitions.specs.Members.{new_name}
 use Rattle.idl_definitions.specs.Structures.{Made, made, new_type}
 
-abbrev pub value_or : ℕ → ℤ → Option ℤ → Result ℤ IdlFault
-value_or at following (Some v) = Ok v
-value_or at following None = if int_le following (pos 2147483647) then Ok following else Err (fault.Annotation at 7)
+-- how the parts of a definition, of type A, are numbered by an N, and what they make together
+pub record Numbering (A N : Type 0) : Type 0 where
+  pub site : Site
+  pub first : N
+  pub given : Settings → Option N
+  pub part : Text → Settings → N → A
+  pub following : A → Option N
+  pub whole : Text → Settings → List A → Tree
 
-abbrev pub a_literal : Text → Bool → ℤ → Literal
-a_literal s is_default v = record { name = name_of.Full s; value = v; is_default = is_default }
-
--- literals so far, their names, and the value after the last one's
-pub record ListedLiterals : Type 0 where
-  pub literals : List Literal
+-- parts so far, their names, and the number that the next one has by itself, where there is one
+pub record Numbered (A N : Type 0) : Type 0 where
+  pub parts : List A
   pub names : List Text
-  pub following : ℤ
+  pub following : Option N
 
-abbrev pub with_literal : ListedLiterals → Text → Literal → ListedLiterals
-with_literal r s l = record { literals = r.literals ++ l ∷ []; names = r.names ++ s ∷ []; following = l.value +ℤ pos 1 }
+abbrev pub number_or : {N : Type 0} → ℕ → Option N → Option N → Result N IdlFault
+number_or at (Some n) following = Ok n
+number_or at None (Some n) = Ok n
+number_or at None None = Err (fault.Annotation at 7)
 
-abbrev pub with_value : ListedLiterals → Text → Bool → Result ℤ IdlFault → Parser ListedLiterals
-with_value r s is_default (Ok v) = pure (with_literal r s (a_literal s is_default v))
-with_value r s is_default (Err e) = refuse e
+module _ {A N : Type 0} (k : Numbering A N) where
+  abbrev pub no_parts : Numbered A N
+  no_parts = record { parts = []; names = []; following = Some k.first }
 
--- one more literal
-unfoldable pub literal : ListedLiterals → Parser ListedLiterals
-literal r = do
-  ns ← notes_at Site.Literal
-  n ← new_name r.names
-  with_value r n.1 (settings ns).is_default (value_or n.0 r.following (settings ns).number)
+  abbrev pub with_part : Numbered A N → Text → A → Numbered A N
+  with_part r s p = record { parts = r.parts ++ p ∷ []; names = r.names ++ s ∷ []; following = k.following p }
 
-abbrev pub no_literals : ListedLiterals
-no_literals = record { literals = []; names = []; following = pos 0 }
+  abbrev pub with_number : Numbered A N → Text → Settings → Result N IdlFault → Parser (Numbered A N)
+  with_number r s set (Ok n) = pure (with_part r s (k.part s set n))
+  with_number r s set (Err e) = refuse e
 
-abbrev pub enumeration_of : Text → Settings → List Literal → Tree
-enumeration_of full set ls = enumeration (Some full) set.ext set.bits ls
+  -- one more part
+  unfoldable pub part : Numbered A N → Parser (Numbered A N)
+  part r = do
+    ns ← notes_at k.site
+    n ← new_name r.names
+    with_number r n.1 (settings ns) (number_or n.0 (k.given (settings ns)) r.following)
 
-unfoldable pub enum_def : State → Settings → Parser Made
-enum_def s set = do
-  take_token
-  n ← new_type s
-  want (codes "{")
-  r ← with_commas literal no_literals
-  want (codes "}")
-  want (codes ";")
-  pure (made n (enumeration_of n.full set r.literals))
+  -- from its keyword on
+  unfoldable pub numbered_def : State → Settings → Parser Made
+  numbered_def s set = do
+    take_token
+    n ← new_type s
+    want (codes "{")
+    r ← with_commas part no_parts
+    want (codes "}")
+    want (codes ";")
+    pure (made n (k.whole n.full set r.parts))
 
--- ---- bitmasks
+-- literals have numbers of 32 bits
+abbrev pub literals : Numbering Literal ℤ
+literals = record {
+  site = Site.Literal;
+  first = pos 0;
+  given = λ set. set.number;
+  part = λ s set v. record { name = name_of.Full s; value = v; is_default = set.is_default };
+  following = λ l. if int_le l.value (pos 2147483646) then Some (l.value +ℤ pos 1) else None;
+  whole = λ full set ls. enumeration (Some full) set.ext set.bits ls;
+}
 
-abbrev pub position_or : ℕ → ℕ → Option ℕ → Result ℕ IdlFault
-position_or at following (Some p) = Ok p
-position_or at following None = if nat_le following 255 then Ok following else Err (fault.Annotation at 7)
+abbrev pub enum_def : State → Settings → Parser Made
+enum_def = numbered_def literals
 
--- flags so far, their names, and the position after the last one's
-pub record ListedFlags : Type 0 where
-  pub flags : List Flag
-  pub names : List Text
-  pub following : ℕ
+-- flags have positions, which are told in an octet
+abbrev pub flags : Numbering Flag ℕ
+flags = record {
+  site = Site.Flag;
+  first = 0;
+  given = λ set. set.position;
+  part = λ s set p. record { name = name_of.Full s; position = p };
+  following = λ f. if nat_le f.position 254 then Some (f.position + 1) else None;
+  whole = λ full set fs. bitmask (Some full) set.bits fs;
+}
 
-abbrev pub a_flag : Text → ℕ → Flag
-a_flag s p = record { name = name_of.Full s; position = p }
-
-abbrev pub with_flag : ListedFlags → Text → Flag → ListedFlags
-with_flag r s f = record { flags = r.flags ++ f ∷ []; names = r.names ++ s ∷ []; following = f.position + 1 }
-
-abbrev pub with_position : ListedFlags → Text → Result ℕ IdlFault → Parser ListedFlags
-with_position r s (Ok p) = pure (with_flag r s (a_flag s p))
-with_position r s (Err e) = refuse e
-
--- one more flag
-unfoldable pub flag : ListedFlags → Parser ListedFlags
-flag r = do
-  ns ← notes_at Site.Flag
-  n ← new_name r.names
-  with_position r n.1 (position_or n.0 r.following (settings ns).position)
-
-abbrev pub no_flags : ListedFlags
-no_flags = record { flags = []; names = []; following = 0 }
-
-abbrev pub bitmask_of : Text → Settings → List Flag → Tree
-bitmask_of full set fs = bitmask (Some full) set.bits fs
-
-unfoldable pub bitmask_def : State → Settings → Parser Made
-bitmask_def s set = do
-  take_token
-  n ← new_type s
-  want (codes "{")
-  r ← with_commas flag no_flags
-  want (codes "}")
-  want (codes ";")
-  pure (made n (bitmask_of n.full set r.flags))
+abbrev pub bitmask_def : State → Settings → Parser Made
+bitmask_def = numbered_def flags

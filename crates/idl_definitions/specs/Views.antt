@@ -8,14 +8,13 @@ use Rattle.idl_definitions.specs.declared.made.Made as made_code
 use Rattle.idl_definitions.specs.declared.made.NewName as name_code
 use Rattle.idl_definitions.specs.declared.members.Listed as listed_code
 use Rattle.idl_definitions.specs.declared.structures.Heritage as heritage_code
-use Rattle.idl_definitions.specs.declared.listed.ListedLiterals as literals_code
-use Rattle.idl_definitions.specs.declared.numbered.ListedFlags as flags_code
+use Rattle.idl_definitions.specs.declared.numbered.Numbered as numbered_code
 use Rattle.idl_definitions.specs.declared.unions.Gathered as gathered_code
 use Rattle.idl_definitions.specs.declared.unions.LabelForm.TheVariants as form_of
 use Rattle.idl_definitions.specs.declared.unions.LabelForm as form_code
 use Rattle.idl_definitions.specs.Members.{Listed}
 use Rattle.idl_definitions.specs.Structures.{Made, NewName, Heritage}
-use Rattle.idl_definitions.specs.Numbered.{ListedLiterals, ListedFlags}
+use Rattle.idl_definitions.specs.Numbered.{Numbered}
 use Rattle.idl_definitions.specs.Unions.{Gathered}
 
 abbrev pub made : made_code.Made → Made
@@ -30,11 +29,8 @@ listed l = record { members = map member_tree l.members; names = l.names; follow
 abbrev pub heritage : heritage_code.Heritage → Heritage
 heritage h = record { fits = h.fits; bases = h.bases; members = map member_tree h.members }
 
-abbrev pub literals : literals_code.ListedLiterals → ListedLiterals
-literals l = record { literals = l.literals; names = l.names; following = l.following }
-
-abbrev pub flags : flags_code.ListedFlags → ListedFlags
-flags l = record { flags = l.flags; names = l.names; following = l.following }
+abbrev pub numbered : {A N : Type 0} → numbered_code.Numbered A N → Numbered A N
+numbered r = record { parts = r.parts; names = r.names; following = r.following }
 
 abbrev pub gathered : gathered_code.Gathered → Gathered
 gathered g = record { cases = map case_tree g.cases; names = g.names; following = g.following }

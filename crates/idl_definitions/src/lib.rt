@@ -2,7 +2,6 @@
 //! typedefs.
 #![tactic(auto)]
 
-mod listed;
 mod literals;
 mod made;
 mod members;

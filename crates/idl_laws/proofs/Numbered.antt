@@ -24,7 +24,7 @@ use Rattle.idl_definitions.specs.declared.settings.Settings.{Settings}
 use Rattle.idl_definitions.specs.Notes.{settings, without_notes}
 use Rattle.idl_definitions.specs.Lists.{with_commas}
 use Rattle.idl_definitions.specs.Members.{new_name}
-use Rattle.idl_definitions.specs.Numbered.{literal, with_literal, no_literals, ListedLiterals, flag, with_flag, no_flags, ListedFlags}
+use Rattle.idl_definitions.specs.Numbered.{Numbered, part, with_part, no_parts, literals, flags}
 use Rattle.idl_printer.specs.Words.{name_text, text_if}
 use Rattle.idl_printer.specs.Parts.{value_text, literal_text, more_literals, literals_text, position_text, more_flags, flags_text}
 use Rattle.idl_laws.proofs.Fronts.{Front, ends, mark_front, front_at, skip_blank}
@@ -46,14 +46,14 @@ AreFlags before (f ∷ fs) = IsNewName before f.name × ((f.position ≤ 63) × 
 
 -- what is read of literals; the names and what follows them aside
 pub record ReadsLiterals (ls : List Literal) (text rest : Text) (size : ℕ) : Type 0 where
-  pub read : ListedLiterals
-  pub reads : with_commas literal no_literals (at text size) ≡ Ok (read, at rest size)
-  pub are : read.literals ≡ ls
+  pub read : Numbered Literal ℤ
+  pub reads : with_commas (part literals) (no_parts literals) (at text size) ≡ Ok (read, at rest size)
+  pub are : read.parts ≡ ls
 
 pub record ReadsFlags (fs : List Flag) (text rest : Text) (size : ℕ) : Type 0 where
-  pub read : ListedFlags
-  pub reads : with_commas flag no_flags (at text size) ≡ Ok (read, at rest size)
-  pub are : read.flags ≡ fs
+  pub read : Numbered Flag ℕ
+  pub reads : with_commas (part flags) (no_parts flags) (at text size) ≡ Ok (read, at rest size)
+  pub are : read.parts ≡ fs
 
 -- a name that is new, wherever it stands
 pub new_name_is : (names : List Text) (s text rest : Text) → Front Word s text rest → is_keyword s ≡ false → has s names ≡ false → (size : ℕ) → new_name names (at text size) ≡ Ok ((place (at text size), s), at rest size)
@@ -96,11 +96,11 @@ unfolding literal_notes
 number_said true n = refl
 number_said false n = refl
 
-abbrev GoodLiteral : ListedLiterals → Literal → Type 0
+abbrev GoodLiteral : Numbered Literal ℤ → Literal → Type 0
 GoodLiteral r l = IsNewName r.names l.name × (in_range 4 true l.value ≡ true)
 
-abbrev with_own_literal : ListedLiterals → Literal → ListedLiterals
-with_own_literal r l = with_literal r (name_text l.name) l
+abbrev with_own_literal : Numbered Literal ℤ → Literal → Numbered Literal ℤ
+with_own_literal r l = with_part literals r (name_text l.name) l
 
 literal_text_is : (l : Literal) (s rest : Text) → l.name ≡ Name.Full s → literal_text l ++ rest ≡ notes_text (literal_notes l.is_default l.value) ++ (s ++ rest)
 unfolding literal_text
@@ -108,8 +108,8 @@ literal_text_is l s rest is =
     let notes = text_if l.is_default (codes "@default_literal ") ++ value_text l.value in
     ap (λ (n : Name). (notes ++ name_text n) ++ rest) is ∙ (append_assoc notes s rest ∙ ap (λ (t : Text). t ++ (s ++ rest)) (notes_of_literal l.is_default l.value))
 
-literal_read : (r : ListedLiterals) (l : Literal) → GoodLiteral r l → (text rest : Text) → skip text ≡ skip (literal_text l ++ rest) → ends rest ≡ true → Reads (literal r) text (with_own_literal r l) rest
-unfolding literal
+literal_read : (r : Numbered Literal ℤ) (l : Literal) → GoodLiteral r l → (text rest : Text) → skip text ≡ skip (literal_text l ++ rest) → ends rest ≡ true → Reads (part literals r) text (with_own_literal r l) rest
+unfolding part
 literal_read r l good text rest begins over size =
     let called = good.0 in
     let notes = literal_notes l.is_default l.value in
@@ -123,10 +123,10 @@ literal_read r l good text rest begins over size =
       read.reads,
       behind_literal l.is_default l.value text (called.s ++ rest),
       new_name_is r.names called.s (32 ∷ called.s ++ rest) rest (free_behind called.s rest called.free over) (free_no_keyword called.s called.free) called.new size,
-      is_default,
       number,
+      is_default,
     )
-    (ap (λ (n : Name). Ok (with_literal r (name_text n) (record { name = n; value = l.value; is_default = l.is_default }), at rest size)) (sym called.is))
+    (ap (λ (n : Name). Ok (with_part literals r (name_text n) (record { name = n; value = l.value; is_default = l.is_default }), at rest size)) (sym called.is))
 
 -- ---- literals
 
@@ -142,13 +142,13 @@ more_literals_are : (ls : List Literal) → more_literals ls ≡ more_text liter
 more_literals_are [] = refl
 more_literals_are (l ∷ ls) = ap (λ (t : Text). codes ", " ++ literal_text l ++ t) (more_literals_are ls)
 
-each_literal : (ls : List Literal) (r : ListedLiterals) → AreLiterals r.names ls → EachGood with_own_literal GoodLiteral r ls
+each_literal : (ls : List Literal) (r : Numbered Literal ℤ) → AreLiterals r.names ls → EachGood with_own_literal GoodLiteral r ls
 each_literal [] r are = tt
 each_literal (l ∷ ls) r are = ((are.0, are.1.0), each_literal ls (with_own_literal r l) are.1.1)
 
-listed_literals : (ls : List Literal) (r : ListedLiterals) → (with_parts with_own_literal r ls).literals ≡ r.literals ++ ls
-listed_literals [] r = sym (append-nil r.literals)
-listed_literals (l ∷ ls) r = listed_literals ls (with_own_literal r l) ∙ append_assoc r.literals (l ∷ []) ls
+listed_literals : (ls : List Literal) (r : Numbered Literal ℤ) → (with_parts with_own_literal r ls).parts ≡ r.parts ++ ls
+listed_literals [] r = sym (append-nil r.parts)
+listed_literals (l ∷ ls) r = listed_literals ls (with_own_literal r l) ∙ append_assoc r.parts (l ∷ []) ls
 
 no_comma : (rest : Text) → tokens.sees (codes ",") (32 ∷ 125 ∷ rest) ≡ false
 no_comma rest = not_seen (codes ",") (front_at (32 ∷ 125 ∷ rest) (skip_blank (125 ∷ rest)) (mark_front 125 rest refl)) refl
@@ -156,10 +156,10 @@ no_comma rest = not_seen (codes ",") (front_at (32 ∷ 125 ∷ rest) (skip_blank
 -- literals, before ` }`
 pub literals_read : (l : Literal) (ls : List Literal) → AreLiterals [] (l ∷ ls) → (text rest : Text) → skip text ≡ skip (literals_text (l ∷ ls) ++ 32 ∷ 125 ∷ rest) → (size : ℕ) → ReadsLiterals (l ∷ ls) text (32 ∷ 125 ∷ rest) size
 literals_read l ls are text rest begins size = record {
-  read = with_parts with_own_literal no_literals (l ∷ ls);
-  reads = commas_read literal literal_text with_own_literal GoodLiteral literal_read (32 ∷ 125 ∷ rest) refl (no_comma rest) l ls no_literals (each_literal (l ∷ ls) no_literals are) (literal_noted l) text
+  read = with_parts with_own_literal (no_parts literals) (l ∷ ls);
+  reads = commas_read (part literals) literal_text with_own_literal GoodLiteral literal_read (32 ∷ 125 ∷ rest) refl (no_comma rest) l ls (no_parts literals) (each_literal (l ∷ ls) (no_parts literals) are) (literal_noted l) text
       (begins ∙ ap (λ (t : Text). skip (literal_text l ++ t ++ 32 ∷ 125 ∷ rest)) (more_literals_are ls)) size;
-  are = listed_literals (l ∷ ls) no_literals;
+  are = listed_literals (l ∷ ls) (no_parts literals);
 }
 
 -- ---- one flag
@@ -177,11 +177,11 @@ flag_fit p = refl
 position_said : (p : ℕ) → p ≤ 63 → (said_from (flag_notes p) without_notes).position ≡ Some p
 position_said p fits = let same : min p 255 ≡ p = omega arith in ap (λ (n : ℕ). Some n) same
 
-abbrev GoodFlag : ListedFlags → Flag → Type 0
+abbrev GoodFlag : Numbered Flag ℕ → Flag → Type 0
 GoodFlag r f = IsNewName r.names f.name × (f.position ≤ 63)
 
-abbrev with_own_flag : ListedFlags → Flag → ListedFlags
-with_own_flag r f = with_flag r (name_text f.name) f
+abbrev with_own_flag : Numbered Flag ℕ → Flag → Numbered Flag ℕ
+with_own_flag r f = with_part flags r (name_text f.name) f
 
 flag_text_is : (f : Flag) (s rest : Text) → f.name ≡ Name.Full s → position_text f ++ rest ≡ notes_text (flag_notes f.position) ++ (s ++ rest)
 unfolding position_text
@@ -189,8 +189,8 @@ flag_text_is f s rest is =
     let notes = codes "@position(" ++ decimal f.position ++ codes ") " in
     ap (λ (n : Name). (notes ++ name_text n) ++ rest) is ∙ (append_assoc notes s rest ∙ ap (λ (t : Text). t ++ (s ++ rest)) (sym (append-nil notes)))
 
-flag_read : (r : ListedFlags) (f : Flag) → GoodFlag r f → (text rest : Text) → skip text ≡ skip (position_text f ++ rest) → ends rest ≡ true → Reads (flag r) text (with_own_flag r f) rest
-unfolding flag
+flag_read : (r : Numbered Flag ℕ) (f : Flag) → GoodFlag r f → (text rest : Text) → skip text ≡ skip (position_text f ++ rest) → ends rest ≡ true → Reads (part flags r) text (with_own_flag r f) rest
+unfolding part
 flag_read r f good text rest begins over size =
     let called = good.0 in
     let notes = flag_notes f.position in
@@ -200,7 +200,7 @@ flag_read r f good text rest begins over size =
     let said : settings read.placed ≡ said_from notes without_notes = settings_are read.placed ∙ ap (λ (ns : List Note). said_from ns without_notes) read.are in
     let position : (settings read.placed).position ≡ Some f.position = ap (λ (s : Settings). s.position) said ∙ position_said f.position good.1 in
     rw (read.reads, new_name_is r.names called.s (32 ∷ called.s ++ rest) rest (free_behind called.s rest called.free over) (free_no_keyword called.s called.free) called.new size, position)
-    (ap (λ (n : Name). Ok (with_flag r (name_text n) (record { name = n; position = f.position }), at rest size)) (sym called.is))
+    (ap (λ (n : Name). Ok (with_part flags r (name_text n) (record { name = n; position = f.position }), at rest size)) (sym called.is))
 
 -- ---- flags
 
@@ -212,19 +212,19 @@ more_flags_are : (fs : List Flag) → more_flags fs ≡ more_text position_text 
 more_flags_are [] = refl
 more_flags_are (f ∷ fs) = ap (λ (t : Text). codes ", " ++ position_text f ++ t) (more_flags_are fs)
 
-each_flag : (fs : List Flag) (r : ListedFlags) → AreFlags r.names fs → EachGood with_own_flag GoodFlag r fs
+each_flag : (fs : List Flag) (r : Numbered Flag ℕ) → AreFlags r.names fs → EachGood with_own_flag GoodFlag r fs
 each_flag [] r are = tt
 each_flag (f ∷ fs) r are = ((are.0, are.1.0), each_flag fs (with_own_flag r f) are.1.1)
 
-listed_flags : (fs : List Flag) (r : ListedFlags) → (with_parts with_own_flag r fs).flags ≡ r.flags ++ fs
-listed_flags [] r = sym (append-nil r.flags)
-listed_flags (f ∷ fs) r = listed_flags fs (with_own_flag r f) ∙ append_assoc r.flags (f ∷ []) fs
+listed_flags : (fs : List Flag) (r : Numbered Flag ℕ) → (with_parts with_own_flag r fs).parts ≡ r.parts ++ fs
+listed_flags [] r = sym (append-nil r.parts)
+listed_flags (f ∷ fs) r = listed_flags fs (with_own_flag r f) ∙ append_assoc r.parts (f ∷ []) fs
 
 -- flags, before ` }`
 pub flags_read : (f : Flag) (fs : List Flag) → AreFlags [] (f ∷ fs) → (text rest : Text) → skip text ≡ skip (flags_text (f ∷ fs) ++ 32 ∷ 125 ∷ rest) → (size : ℕ) → ReadsFlags (f ∷ fs) text (32 ∷ 125 ∷ rest) size
 flags_read f fs are text rest begins size = record {
-  read = with_parts with_own_flag no_flags (f ∷ fs);
-  reads = commas_read flag position_text with_own_flag GoodFlag flag_read (32 ∷ 125 ∷ rest) refl (no_comma rest) f fs no_flags (each_flag (f ∷ fs) no_flags are) (flag_noted f) text
+  read = with_parts with_own_flag (no_parts flags) (f ∷ fs);
+  reads = commas_read (part flags) position_text with_own_flag GoodFlag flag_read (32 ∷ 125 ∷ rest) refl (no_comma rest) f fs (no_parts flags) (each_flag (f ∷ fs) (no_parts flags) are) (flag_noted f) text
       (begins ∙ ap (λ (t : Text). skip (position_text f ++ t ++ 32 ∷ 125 ∷ rest)) (more_flags_are fs)) size;
-  are = listed_flags (f ∷ fs) no_flags;
+  are = listed_flags (f ∷ fs) (no_parts flags);
 }

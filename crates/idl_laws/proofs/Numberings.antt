@@ -11,7 +11,7 @@ use Rattle.idl_tokens.specs.Tokens.{skip}
 use Rattle.idl_input.specs.Input.{place}
 use Rattle.idl_types.specs.State.{State}
 use Rattle.idl_definitions.specs.declared.settings.Settings.{Settings}
-use Rattle.idl_definitions.specs.Numbered.{enum_def, bitmask_def}
+use Rattle.idl_definitions.specs.Numbered.{numbered_def, enum_def, bitmask_def}
 use Rattle.idl_printer.specs.Parts.{literals_text, flags_text}
 use Rattle.idl_laws.proofs.Fronts.{Front, skip_blank, mark_front}
 use Rattle.idl_laws.proofs.Steps.{at, next_is, want_is}
@@ -32,7 +32,7 @@ mask_body name fs rest = codes "bitmask" ++ (32 ∷ braced name (flags_text fs) 
 
 pub enum_read : (s : State) (set : Settings) (last full : Text) → IsNewType s last full → (ext : Ext) (bits : ℕ) (l : Literal) (ls : List Literal) → set.ext ≡ ext → set.bits ≡ bits → AreLiterals [] (l ∷ ls) → (text rest : Text) → skip text ≡ skip (enum_body last (l ∷ ls) rest) → (size : ℕ)
     → ReadsMade (enum_def s set) text last full (enumeration (Some full) ext bits (l ∷ ls)) rest size
-unfolding enum_def
+unfolding numbered_def
 enum_read s set last full new ext bits l ls set_ext set_bits are text rest begins size =
     let inside = 32 ∷ (literals_text (l ∷ ls) ++ (32 ∷ 125 ∷ 59 ∷ rest)) in
     let named = 32 ∷ braced last (literals_text (l ∷ ls)) rest in
@@ -42,7 +42,7 @@ enum_read s set last full new ext bits l ls set_ext set_bits are text rest begin
     let r : ReadsLiterals (l ∷ ls) inside (32 ∷ 125 ∷ 59 ∷ rest) size = literals_read l ls are inside (59 ∷ rest) (skip_blank (literals_text (l ∷ ls) ++ (32 ∷ 125 ∷ 59 ∷ rest))) size in
     let close : Front Mark (125 ∷ []) (32 ∷ 125 ∷ 59 ∷ rest) (59 ∷ rest) = mark_at 125 (skip_blank (125 ∷ 59 ∷ rest)) refl in
     record {
-      made = record { at = place (at named size); name = last; full = full; tree = enumeration (Some full) set.ext set.bits r.read.literals; fits = true };
+      made = record { at = place (at named size); name = last; full = full; tree = enumeration (Some full) set.ext set.bits r.read.parts; fits = true };
       reads = rw (next_is front size, name, want_is brace refl size, r.reads, want_is close refl size, want_is (mark_front 59 rest refl) refl size) refl;
       named = refl;
       whole = refl;
@@ -52,7 +52,7 @@ enum_read s set last full new ext bits l ls set_ext set_bits are text rest begin
 
 pub mask_read : (s : State) (set : Settings) (last full : Text) → IsNewType s last full → (bits : ℕ) (f : Flag) (fs : List Flag) → set.bits ≡ bits → AreFlags [] (f ∷ fs) → (text rest : Text) → skip text ≡ skip (mask_body last (f ∷ fs) rest) → (size : ℕ)
     → ReadsMade (bitmask_def s set) text last full (bitmask (Some full) bits (f ∷ fs)) rest size
-unfolding bitmask_def
+unfolding numbered_def
 mask_read s set last full new bits f fs set_bits are text rest begins size =
     let inside = 32 ∷ (flags_text (f ∷ fs) ++ (32 ∷ 125 ∷ 59 ∷ rest)) in
     let named = 32 ∷ braced last (flags_text (f ∷ fs)) rest in
@@ -62,7 +62,7 @@ mask_read s set last full new bits f fs set_bits are text rest begins size =
     let r : ReadsFlags (f ∷ fs) inside (32 ∷ 125 ∷ 59 ∷ rest) size = flags_read f fs are inside (59 ∷ rest) (skip_blank (flags_text (f ∷ fs) ++ (32 ∷ 125 ∷ 59 ∷ rest))) size in
     let close : Front Mark (125 ∷ []) (32 ∷ 125 ∷ 59 ∷ rest) (59 ∷ rest) = mark_at 125 (skip_blank (125 ∷ 59 ∷ rest)) refl in
     record {
-      made = record { at = place (at named size); name = last; full = full; tree = bitmask (Some full) set.bits r.read.flags; fits = true };
+      made = record { at = place (at named size); name = last; full = full; tree = bitmask (Some full) set.bits r.read.parts; fits = true };
       reads = rw (next_is front size, name, want_is brace refl size, r.reads, want_is close refl size, want_is (mark_front 59 rest refl) refl size) refl;
       named = refl;
       whole = refl;

@@ -24,14 +24,14 @@ use Rattle.idl_types.specs.Types.{unsigned_type, long_type, string_type, last_bo
 use Rattle.idl_definitions.specs.Lists.{comma_from, braced_from}
 use Rattle.idl_definitions.specs.Members.{dims_from, dims, dimensioned, new_name, id_for, shaped, another, members_of_type}
 use Rattle.idl_definitions.specs.Structures.{new_type, base_clause, in_profile, struct_def, typedef_def}
-use Rattle.idl_definitions.specs.Numbered.{literal, enum_def, flag, bitmask_def}
+use Rattle.idl_definitions.specs.Numbered.{part, numbered_def}
 use Rattle.idl_definitions.specs.Unions.{truth_label, character_label, number_label, literal_label, label, labels_from, labels, case, discriminator, union_def}
 use Rattle.xt_idl.specs.Leading.{leading_from, leading, leading_notes}
 use Rattle.xt_idl.specs.Whole.{typed, module_def, closed, item, at_end, items_from, idl}
 
 -- what a text declares, with all definitions at hand
 unfoldable pub computed : Text → Result Declared IdlFault
-unfolding type_fault first_deep first_fault failing name_number is_numeral magnitude unsigned_in signed_32 token blank skip sees annotation parameter ext_word autoid_word try_word in_parentheses of_annotation note_after same_setting breaks keyword input.sees kind spelling next left place sees_name keyword_at sees_number after_if want name bound note notes_from notes_at meant parts_from scoped type_by_name unsigned_type long_type string_type last_bound element sequence_type map_type named_type type_to comma_from braced_from dims_from dims dimensioned new_name id_for shaped another members_of_type new_type base_clause in_profile struct_def typedef_def literal enum_def flag bitmask_def truth_label character_label number_label literal_label label labels_from labels case discriminator union_def leading_from leading leading_notes typed module_def closed item at_end items_from idl
+unfolding type_fault first_deep first_fault failing name_number is_numeral magnitude unsigned_in signed_32 token blank skip sees annotation parameter ext_word autoid_word try_word in_parentheses of_annotation note_after same_setting breaks keyword input.sees kind spelling next left place sees_name keyword_at sees_number after_if want name bound note notes_from notes_at meant parts_from scoped type_by_name unsigned_type long_type string_type last_bound element sequence_type map_type named_type type_to comma_from braced_from dims_from dims dimensioned new_name id_for shaped another members_of_type new_type base_clause in_profile struct_def typedef_def part numbered_def truth_label character_label number_label literal_label label labels_from labels case discriminator union_def leading_from leading leading_notes typed module_def closed item at_end items_from idl
 computed text = idl text
 
 -- ---- texts that declare types

@@ -17,7 +17,7 @@ use Rattle.idl_definitions.specs.declared.settings.Settings.{Settings}
 use Rattle.idl_definitions.specs.Notes.{settings}
 use Rattle.idl_definitions.specs.Members.{ListedMembers}
 use Rattle.idl_definitions.specs.Structures.{Made, NewName, Heritage, made_from, structure_of, struct_def, in_profile, typedef_def}
-use Rattle.idl_definitions.specs.Numbered.{enum_def, bitmask_def}
+use Rattle.idl_definitions.specs.Numbered.{numbered_def, enum_def, bitmask_def}
 use Rattle.idl_definitions.specs.Unions.{union_def}
 use Rattle.idl_laws.specs.Printable.{IsOnBase, EachMember, own_members, IsDefinition}
 use Rattle.xt_idl.specs.Whole.{definition_by}
@@ -75,13 +75,13 @@ union_yields s sound set =
     next (want (codes ";")) (given (record { full = new.full; free = new.free; new = new.new; defined = λ fits valid. (refl, (used, each)) })))))))
 
 enum_yields : (s : State) (set : Settings) → Yields (enum_def s set) (IsMade s)
-unfolding enum_def
+unfolding numbered_def
 enum_yields s set =
     next take_token (bind (new_type_yields s) (λ n new. next (want (codes "{")) (bind literals_yield (λ r each. next (want (codes "}")) (next (want (codes ";"))
-    (given (record { full = new.full; free = new.free; new = new.new; defined = λ fits valid. (refl, enumeration_fits (Some n.full) set.ext set.bits r.literals each valid) })))))))
+    (given (record { full = new.full; free = new.free; new = new.new; defined = λ fits valid. (refl, enumeration_fits (Some n.full) set.ext set.bits r.parts each valid) })))))))
 
 bitmask_yields : (s : State) (set : Settings) → Yields (bitmask_def s set) (IsMade s)
-unfolding bitmask_def
+unfolding numbered_def
 bitmask_yields s set =
     next take_token (bind (new_type_yields s) (λ n new. next (want (codes "{")) (bind flags_yield (λ r each. next (want (codes "}")) (next (want (codes ";"))
     (given (record { full = new.full; free = new.free; new = new.new; defined = λ fits valid. (refl, each) })))))))

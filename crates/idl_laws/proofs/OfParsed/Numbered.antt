@@ -19,7 +19,8 @@ use Rattle.idl_input.specs.Words.{is_keyword}
 use Rattle.idl_input.specs.Input.{notes_at}
 use Rattle.idl_definitions.specs.Notes.{settings}
 use Rattle.idl_definitions.specs.Lists.{with_commas}
-use Rattle.idl_definitions.specs.Numbered.{value_or, ListedLiterals, a_literal, with_value, literal, no_literals, position_or, ListedFlags, a_flag, with_position, flag, no_flags}
+use Rattle.idl_definitions.specs.Numbered.{Numbered, number_or, with_number, part, no_parts, literals, flags}
+use Rattle.idl_definitions.specs.declared.settings.Settings.{Settings}
 use Rattle.idl_laws.specs.Printable.{is_spelled, is_number, literal_fits}
 use Rattle.type_rules.proofs.OfFaultless.Nodes.{at_and_below, no_fault}
 use Rattle.idl_laws.proofs.OfParsed.Gives.{Yields, bind, behind, given, fails}
@@ -35,17 +36,16 @@ all_more p (b ∷ l) a each more = let parts = and_parts (p b) (all p l) each in
 abbrev pub AllSpelled : List Literal → Type 0
 AllSpelled ls = all (λ l. is_spelled l.name) ls ≡ true
 
-value_yields : (r : ListedLiterals) (s : Text) (is_default : Bool) (v : Result ℤ IdlFault) → is_keyword s ≡ false → AllSpelled r.literals → Yields (with_value r s is_default v) (λ l. AllSpelled l.literals)
-value_yields r s is_default (Ok v) free each = given (all_more (λ l. is_spelled l.name) r.literals (a_literal s is_default v) each (spelled_name s _ free refl))
-value_yields r s is_default (Err e) free each = fails
+value_yields : (r : Numbered Literal ℤ) (s : Text) (set : Settings) (v : Result ℤ IdlFault) → is_keyword s ≡ false → AllSpelled r.parts → Yields (with_number literals r s set v) (λ l. AllSpelled l.parts)
+value_yields r s set (Ok v) free each = given (all_more (λ l. is_spelled l.name) r.parts (literals.part s set v) each (spelled_name s _ free refl))
+value_yields r s set (Err e) free each = fails
 
-literal_yields : (r : ListedLiterals) → AllSpelled r.literals → Yields (literal r) (λ l. AllSpelled l.literals)
-unfolding literal
-literal_yields r each =
-    behind (notes_at Site.Literal) (λ ns. bind (new_name_yields r.names) (λ n free. value_yields r n.1 (settings ns).is_default (value_or n.0 r.following (settings ns).number) free each))
+literal_yields : (r : Numbered Literal ℤ) → AllSpelled r.parts → Yields (part literals r) (λ l. AllSpelled l.parts)
+unfolding part
+literal_yields r each = behind (notes_at Site.Literal) (λ ns. bind (new_name_yields r.names) (λ n free. value_yields r n.1 (settings ns) (number_or n.0 (settings ns).number r.following) free each))
 
-pub literals_yield : Yields (with_commas literal no_literals) (λ l. AllSpelled l.literals)
-literals_yield = commas_yield literal (λ l. AllSpelled l.literals) literal_yields no_literals refl
+pub literals_yield : Yields (with_commas (part literals) (no_parts literals)) (λ l. AllSpelled l.parts)
+literals_yield = commas_yield (part literals) (λ l. AllSpelled l.parts) literal_yields (no_parts literals) refl
 
 -- ---- their values, which a valid enumeration has within 32 bits
 
@@ -85,13 +85,13 @@ enumeration_fits name ext bits ls each valid =
 abbrev pub AllNamed : List Flag → Type 0
 AllNamed fs = all (λ f. is_spelled f.name) fs ≡ true
 
-position_yields : (r : ListedFlags) (s : Text) (p : Result ℕ IdlFault) → is_keyword s ≡ false → AllNamed r.flags → Yields (with_position r s p) (λ l. AllNamed l.flags)
-position_yields r s (Ok p) free each = given (all_more (λ f. is_spelled f.name) r.flags (a_flag s p) each (spelled_name s _ free refl))
-position_yields r s (Err e) free each = fails
+position_yields : (r : Numbered Flag ℕ) (s : Text) (set : Settings) (p : Result ℕ IdlFault) → is_keyword s ≡ false → AllNamed r.parts → Yields (with_number flags r s set p) (λ l. AllNamed l.parts)
+position_yields r s set (Ok p) free each = given (all_more (λ f. is_spelled f.name) r.parts (flags.part s set p) each (spelled_name s _ free refl))
+position_yields r s set (Err e) free each = fails
 
-flag_yields : (r : ListedFlags) → AllNamed r.flags → Yields (flag r) (λ l. AllNamed l.flags)
-unfolding flag
-flag_yields r each = behind (notes_at Site.Flag) (λ ns. bind (new_name_yields r.names) (λ n free. position_yields r n.1 (position_or n.0 r.following (settings ns).position) free each))
+flag_yields : (r : Numbered Flag ℕ) → AllNamed r.parts → Yields (part flags r) (λ l. AllNamed l.parts)
+unfolding part
+flag_yields r each = behind (notes_at Site.Flag) (λ ns. bind (new_name_yields r.names) (λ n free. position_yields r n.1 (settings ns) (number_or n.0 (settings ns).position r.following) free each))
 
-pub flags_yield : Yields (with_commas flag no_flags) (λ l. AllNamed l.flags)
-flags_yield = commas_yield flag (λ l. AllNamed l.flags) flag_yields no_flags refl
+pub flags_yield : Yields (with_commas (part flags) (no_parts flags)) (λ l. AllNamed l.parts)
+flags_yield = commas_yield (part flags) (λ l. AllNamed l.parts) flag_yields (no_parts flags) refl

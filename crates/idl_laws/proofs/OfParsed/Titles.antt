@@ -10,7 +10,7 @@ use Rattle.idl_types.specs.State.{State}
 use Rattle.idl_types.specs.Names.{innermost, full_name}
 use Rattle.idl_definitions.specs.declared.settings.Settings.{Settings}
 use Rattle.idl_definitions.specs.Structures.{Made, NewName, new_type, in_profile, base_clause, members, struct_def, typedef_def}
-use Rattle.idl_definitions.specs.Numbered.{literal, no_literals, flag, no_flags, enum_def, bitmask_def}
+use Rattle.idl_definitions.specs.Numbered.{part, no_parts, numbered_def, literals, flags, enum_def, bitmask_def}
 use Rattle.idl_definitions.specs.Unions.{discriminator, case, no_cases_yet, union_def}
 use Rattle.idl_definitions.specs.Lists.{to_brace, with_commas}
 use Rattle.idl_definitions.specs.Members.{once, dimensioned}
@@ -49,14 +49,14 @@ union_yields s set =
     next (want (codes "{")) (behind (to_brace (case s set.hashed d.0) no_cases_yet) (λ r. next (want (codes ";")) (given free))))))
 
 enum_yields : (s : State) (set : Settings) → Yields (enum_def s set) IsTitled
-unfolding enum_def
+unfolding numbered_def
 enum_yields s set =
-    next take_token (bind (new_type_yields s) (λ n free. next (want (codes "{")) (behind (with_commas literal no_literals) (λ r. next (want (codes "}")) (next (want (codes ";")) (given free))))))
+    next take_token (bind (new_type_yields s) (λ n free. next (want (codes "{")) (behind (with_commas (part literals) (no_parts literals)) (λ r. next (want (codes "}")) (next (want (codes ";")) (given free))))))
 
 bitmask_yields : (s : State) (set : Settings) → Yields (bitmask_def s set) IsTitled
-unfolding bitmask_def
+unfolding numbered_def
 bitmask_yields s set =
-    next take_token (bind (new_type_yields s) (λ n free. next (want (codes "{")) (behind (with_commas flag no_flags) (λ r. next (want (codes "}")) (next (want (codes ";")) (given free))))))
+    next take_token (bind (new_type_yields s) (λ n free. next (want (codes "{")) (behind (with_commas (part flags) (no_parts flags)) (λ r. next (want (codes "}")) (next (want (codes ";")) (given free))))))
 
 typedef_yields : (s : State) → Yields (typedef_def s) IsTitled
 unfolding typedef_def
