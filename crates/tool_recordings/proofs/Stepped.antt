@@ -1,12 +1,10 @@
 -- Records that are replayed, one after another.
 use Rattle.std.proofs.Common.{◌≡◌, refl, sym, ap, ◌∙◌, subst, ℕ, ◌+◌, Bool, true, false, if◌then◌else◌, List, [], ◌∷◌, None, Some, Result, Ok, Err}
 use Rattle.std.specs.declared.option.Option.{Option}
-use Rattle.std.specs.Option.{option_map}
-use Rattle.xt_io.specs.declared.Head.{Head}
 use Rattle.xt_io.specs.declared.Item.{Item}
 use Rattle.xt_io.specs.declared.Kind.{Kind}
 use Rattle.xt_io.specs.declared.Kind.TheVariants.{Sample}
-use Rattle.xt_io.specs.Bundles.{Bundle, before_bundle, item_of}
+use Rattle.xt_io.specs.Bundles.{Bundle, before_bundle}
 use Rattle.xt_shapes.specs.declared.leaves.Rep.{Rep}
 use Rattle.type_trees.specs.Trees.{Tree}
 use Rattle.type_trees.specs.Bridge.{shape}
@@ -26,7 +24,7 @@ use Rattle.tool_runs.specs.declared.output.halt.Halt.TheVariants as halts
 use Rattle.tool_runs.specs.declared.output.stop.Stop.{Stop}
 use Rattle.tool_runs.specs.declared.output.stop.Stop.TheVariants as stops
 use Rattle.tool_runs.specs.output.Outputs.{Output, after_pieces, after_turn, run_over}
-use Rattle.tool_runs.specs.output.Runs.{Steps, TakesRecord, Refuses}
+use Rattle.tool_runs.specs.output.Runs.{Steps, Refuses}
 use Rattle.tool_runs.proofs.OfOutput.Turning.{refuses_here}
 use Rattle.tool_runs.proofs.OfOutput.Written.{stops_here}
 use Rattle.tool_samples.specs.lines.Lines.{outcome_line, sample_line}
@@ -97,21 +95,10 @@ next_record : (t : Tree) (s : State) (k : ℕ) (item : Item) (more : Bundle) →
 unfolding run_over
 next_record t s k item more = refl
 
-untold : (rest : Option Output) (result : Result (Unit {0}) Stop) (old new : Option (List ℕ)) → Steps Lines None rest result old new
-untold rest (Ok u) old new = tt
-untold rest (Err (stops.Refused r)) old new = tt
-untold rest (Err (stops.Halted halt)) old new = tt
-
--- its payload was read whole, and it was taken
-pub record_stepped : (t u : Tree) (s now : State) (k : ℕ) (head : Head) (payload : List ℕ) (before after : Option Bundle) (result : Result (Unit {0}) Stop) (old new : Option (List ℕ)) → u ≡ t → TakesRecord head (λ octets. octets ≡ payload) before after
-    → ((more : State → Output) → Steps Lines (Some (after_turn Lines (replay_turn t k (item_of head payload) s) more)) (Some (more now)) result old new)
-    → Steps Lines (option_map (λ b. replayed t s k b) before) (option_map (λ b. replayed u now (k + 1) b) after) result old new
-record_stepped t u s now k head payload None after result old new same p q = untold (option_map (λ b. replayed u now (k + 1) b) after) result old new
-record_stepped t u s now k head payload (Some before) None result old new same p q = absurd p
-record_stepped t u s now k head payload (Some before) (Some after) result old new same p q =
-    let (octets, is, read) = p in
-    let more : State → Output = λ next. replayed t next (k + 1) after in
-    let there : replayed t s k before ≡ after_turn Lines (replay_turn t k (item_of head payload) s) more =
-    ap (replayed t s k) is ∙ next_record t s k (item_of head octets) after ∙ ap (λ (l : List ℕ). after_turn Lines (replay_turn t k (item_of head l) s) more) read in
-    let step = subst (λ (v : Tree). Steps Lines (Some (after_turn Lines (replay_turn t k (item_of head payload) s) more)) (Some (replayed v now (k + 1) after)) result old new) (sym same) (q more) in
-    subst (λ (o : Output). Steps Lines (Some o) (Some (replayed u now (k + 1) after)) result old new) (sym there) step
+-- it was taken
+pub record_stepped : (t u : Tree) (s now : State) (k : ℕ) (item : Item) (more : Bundle) (result : Result (Unit {0}) Stop) (old new : Option (List ℕ)) → u ≡ t → ((rest : State → Output) → Steps Lines (Some (after_turn Lines (replay_turn t k item s) rest)) (Some (rest now)) result old new)
+    → Steps Lines (Some (replayed t s k (before_bundle item more))) (Some (replayed u now (k + 1) more)) result old new
+record_stepped t u s now k item more result old new same p =
+    let rest : State → Output = λ next. replayed t next (k + 1) more in
+    let step = subst (λ (v : Tree). Steps Lines (Some (after_turn Lines (replay_turn t k item s) rest)) (Some (replayed v now (k + 1) more)) result old new) (sym same) (p rest) in
+    subst (λ (o : Output). Steps Lines (Some o) (Some (replayed u now (k + 1) more)) result old new) (sym (next_record t s k item more)) step

@@ -7,10 +7,11 @@ ghost use Rattle.tool_types.specs.names.Identified.{Resolves};
 ghost use Rattle.tool_recordings.specs.Recording as spec;
 
 use std::alloc::Global;
-use tool_runs::output::{Halt, Stop, Style, Turns, payload_of};
+use tool_runs::output::{Halt, Payloads, Stop, Style, is_sample};
 use type_object::Pool;
 use type_trees::HashId;
-use xt_io::{BundleReader, Head, Kind, Sink, Source, write_record};
+use xt_io::{Head, Kind, Sink, write_record};
+use xt_lists::Text;
 use xt_recorder::{StreamFault, write_stream};
 use xt_shapes::Rep;
 
@@ -58,7 +59,7 @@ fn write_sample<K: Sink>(payload: &[u8], sink: &mut K) -> Result<(), Halt>
     Ok(write_record(sink, Kind::Sample, payload)?)
 }
 
-impl Turns for Recorded {
+impl Payloads for Recorded {
     ghost use Rattle.xt_io.specs.declared.Kind.TheVariants.{Sample};
     ghost use Rattle.tool_runs.specs.declared.output.ending.Style.TheVariants.{Records};
     ghost use Rattle.tool_runs.specs.output.Outputs.{taking, finished, same_kind};
@@ -72,27 +73,20 @@ impl Turns for Recorded {
     ghost to_write = { λ s k bundle. samples_recorded k bundle };
 
     fn takes(kind: Kind) -> bool {
-        match kind {
-            Kind::Sample => true,
-            Kind::Object | Kind::Idl | Kind::Json | Kind::Note => false,
-        }
+        is_sample(kind)
     }
 
-    fn turn<S: Source, K: Sink>(
+    fn take<K: Sink>(
         &mut self,
-        alloc: Global,
+        _alloc: Global,
         _number: u32,
-        head: Head,
-        reader: BundleReader<S>,
+        _head: Head,
+        payload: Text,
         sink: &mut K,
-    ) -> (BundleReader<S>, Result<(), Stop>) {
-        let mut reader = reader;
-        match payload_of(alloc, head, &mut reader) {
-            Err(stop) => (reader, Err(stop)),
-            Ok(payload) => match write_sample(payload.octets(), sink) {
-                Ok(()) => (reader, Ok(())),
-                Err(halt) => (reader, Err(Stop::Halted(halt))),
-            },
+    ) -> Result<(), Stop> {
+        match write_sample(payload.octets(), sink) {
+            Ok(()) => Ok(()),
+            Err(halt) => Err(Stop::Halted(halt)),
         }
     }
 

@@ -17,12 +17,13 @@ use crate::lines::say_replayed;
 use crate::refusals::refuse_replay;
 use packed_json::Plan;
 use std::alloc::Global;
-use tool_runs::output::{Halt, Stop, Style, Turns, payload_of};
+use tool_runs::output::{Halt, Payloads, Stop, Style};
 use tool_runs::say_pieces;
 use tool_samples::{payload_line, plan_for};
 use type_object::Pool;
 use type_trees::XType;
-use xt_io::{BundleReader, Head, Item, Kind, Sink, Source};
+use xt_io::{Head, Item, Kind, Sink};
+use xt_lists::Text;
 use xt_recorder::Replayer;
 use xt_shapes::Rep;
 
@@ -79,7 +80,7 @@ impl Replays {
     }
 
     // Writes the lines of the record of this number. A refusal is not written yet.
-    fn take<K: Sink>(
+    fn replay<K: Sink>(
         &mut self,
         alloc: Global,
         number: u32,
@@ -117,7 +118,7 @@ impl Replays {
     }
 }
 
-impl Turns for Replays {
+impl Payloads for Replays {
     ghost use Rattle.tool_runs.specs.declared.output.ending.Style.TheVariants.{Lines};
     ghost use Rattle.std.specs.Prelude.{Bool, ◌+◌, if◌then◌else◌};
     ghost use Rattle.std.proofs.Common.{ap};
@@ -136,27 +137,20 @@ impl Turns for Replays {
         true
     }
 
-    fn turn<S: Source, K: Sink>(
+    fn take<K: Sink>(
         &mut self,
         alloc: Global,
         number: u32,
         head: Head,
-        reader: BundleReader<S>,
+        payload: Text,
         sink: &mut K,
-    ) -> (BundleReader<S>, Result<(), Stop>) {
-        let mut reader = reader;
-        match payload_of(alloc, head, &mut reader) {
-            Err(stop) => (reader, Err(stop)),
-            Ok(payload) => {
-                let item = Item {
-                    kind: head.kind,
-                    at: head.at,
-                    payload,
-                };
-                let taken = self.take(alloc, number, &item, sink);
-                (reader, taken)
-            }
-        }
+    ) -> Result<(), Stop> {
+        let item = Item {
+            kind: head.kind,
+            at: head.at,
+            payload,
+        };
+        self.replay(alloc, number, &item, sink)
     }
 
     ghost at_fault = { λ s k fault. run_at_fault Lines (replay_turn (reader_of s.replayer)) (λ state. finished) (state_of s.replayer) k fault };

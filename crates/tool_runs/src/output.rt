@@ -3,12 +3,14 @@
 mod block;
 mod ending;
 mod halt;
+mod payloads;
 mod saying;
 mod stop;
 mod turns;
 
 pub use ending::{Cause, Ending, Style};
 pub use halt::Halt;
+pub use payloads::Payloads;
 pub use saying::{last, line, record, refuse_bundle, refuse_fault, say};
 pub use stop::{Refused, Stop};
-pub use turns::{Next, Turns, next_of, pass_other, payload_of, run_body, stop_for};
+pub use turns::{Next, Turns, is_sample, next_of, pass_other, payload_of, run_body, stop_for};

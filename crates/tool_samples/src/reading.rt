@@ -8,7 +8,7 @@ use crate::payloads::plan_for;
 use crate::sampling::sample_piece;
 use packed_json::Plan;
 use std::alloc::Global;
-use tool_runs::output::{Stop, Turns, say};
+use tool_runs::output::{Stop, Turns, is_sample, say};
 use type_trees::XType;
 use xt_io::{BundleReader, Head, Kind, Sink, Source};
 use xt_shapes::Rep;
@@ -70,10 +70,7 @@ impl<F: Shows + Drop> Turns for Samples<F> {
     ghost to_write = { λ s k bundle. run F.style (taking Sample (shown_turn s.rep (F.piece s.form (tree s.ty)) (tree s.ty))) (λ u. finished) tt k bundle };
 
     fn takes(kind: Kind) -> bool {
-        match kind {
-            Kind::Sample => true,
-            Kind::Object | Kind::Idl | Kind::Json | Kind::Note => false,
-        }
+        is_sample(kind)
     }
 
     fn turn<S: Source, K: Sink>(

@@ -185,6 +185,21 @@ pub payload_stops : (A T : Type 0) (style : Style) (f : Bundle → Output) (head
 payload_stops A T style f head P before after rest (stops.Refused r) a law p = cut_turn T style f head before rest r a law p
 payload_stops A T style f head P before after rest (stops.Halted halt) a law p = stops_here (option_map f before) halt a
 
+untold : (style : Style) (rest : Option Output) (result : Result (Unit {0}) Stop) (old new : Option (List ℕ)) → Steps style None rest result old new
+untold style rest (Ok u) old new = tt
+untold style rest (Err (stops.Refused r)) old new = tt
+untold style rest (Err (stops.Halted halt)) old new = tt
+
+-- the record's payload was read whole, and taken
+pub payload_goes : (style : Style) (f g : Bundle → Output) (head : Head) (payload : List ℕ) (before after : Option Bundle) (result : Result (Unit {0}) Stop) (old new : Option (List ℕ)) → TakesRecord head (λ octets. octets ≡ payload) before after
+    → ((more : Bundle) → Steps style (Some (f (before_bundle (item_of head payload) more))) (Some (g more)) result old new) → Steps style (option_map f before) (option_map g after) result old new
+payload_goes style f g head payload None after result old new p q = untold style (option_map g after) result old new
+payload_goes style f g head payload (Some before) None result old new p q = absurd p
+payload_goes style f g head payload (Some before) (Some after) result old new p q =
+    let (octets, is, same) = p in
+    let there : f before ≡ f (before_bundle (item_of head payload) after) = ap f is ∙ ap (λ (l : List ℕ). f (before_bundle (item_of head l) after)) same in
+    subst (λ (o : Output). Steps style (Some o) (Some (g after)) result old new) (sym there) (q after)
+
 -- ---- runs
 
 pub run_at_fault : {S : Type 0} (style : Style) (turn : ℕ → Item → S → Turn S) (finish : S → Output) (s : S) (k : ℕ) (fault : RecordFault) → run style turn finish s k (only_fault fault) ≡ refused style (broken fault)

@@ -96,6 +96,16 @@ fn pass_payload_of<S: Source>(
     }
 }
 
+/// Whether records of this kind are samples.
+pub fn is_sample(kind: Kind) -> bool
+    ensures { result ≡ same_kind kind Kind.Sample }
+{
+    match kind {
+        Kind::Sample => true,
+        Kind::Object | Kind::Idl | Kind::Json | Kind::Note => false,
+    }
+}
+
 fn is_note(kind: Kind) -> bool
     ensures { result ≡ same_kind kind Kind.Note }
 {

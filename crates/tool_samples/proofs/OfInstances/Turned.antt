@@ -34,7 +34,7 @@ use Rattle.tool_runs.specs.declared.output.halt.Halt.TheVariants as halts
 use Rattle.tool_runs.specs.declared.output.stop.Stop.{Stop}
 use Rattle.tool_runs.specs.declared.output.stop.Stop.TheVariants as stops
 use Rattle.tool_runs.specs.output.Outputs.{Output, Refusal, Turn, goes_on, over, after_pieces, after_turn, refused}
-use Rattle.tool_runs.specs.output.Runs.{Leads, Refuses, Steps, TakesRecord}
+use Rattle.tool_runs.specs.output.Runs.{Leads, Refuses, Steps}
 use Rattle.tool_runs.proofs.OfOutput.Written.{stops_here}
 use Rattle.tool_samples.specs.instances.Instancing.{most_keys, full, put_turn, outcome_turn, payload_turn}
 use Rattle.tool_samples.specs.instances.Keeping.{HasKey, Keeps}
@@ -122,26 +122,11 @@ no_read_fault (over said) now (Err (stops.Halted halt)) p e = no_halt halt p e
 same_pieces : (pieces : List (List ℕ)) (next now : Instances) (more : Instances → Output) (a : Option (List ℕ)) → pieces ≡ [] → next ≡ now → Leads (Some (after_pieces pieces (more next))) (Some (more now)) a a
 same_pieces pieces next now more a p q = ([], ap₂ (λ (l : List (List ℕ)) (s : Instances). after_pieces l (more s)) p q, Appends-nil a)
 
-kept_on : (style : Style) (turn : Turn Instances) (more : Instances → Output) (now : Instances) (result : Result (Unit {0}) Stop) (a : Option (List ℕ)) → Keeps turn now result → Steps style (Some (after_turn style turn more)) (Some (more now)) result a a
+-- its turn is done
+pub kept_on : (style : Style) (turn : Turn Instances) (more : Instances → Output) (now : Instances) (result : Result (Unit {0}) Stop) (a : Option (List ℕ)) → Keeps turn now result → Steps style (Some (after_turn style turn more)) (Some (more now)) result a a
 kept_on style (goes_on pieces next) more now (Ok u) a p = same_pieces pieces next now more a p.0 p.1
 kept_on style (goes_on pieces next) more now (Err (stops.Refused r)) a p = absurd p
 kept_on style (goes_on pieces next) more now (Err (stops.Halted halt)) a p = stops_here (Some (after_turn style (goes_on pieces next) more)) halt a
 kept_on style (over said) more now (Ok u) a p = absurd p
 kept_on style (over said) more now (Err (stops.Refused r)) a p = ([], ap (refused style) (sym p), Appends-nil a)
 kept_on style (over said) more now (Err (stops.Halted halt)) a p = stops_here (Some (refused style said)) halt a
-
-untold : (style : Style) (rest : Option Output) (result : Result (Unit {0}) Stop) (a : Option (List ℕ)) → Steps style None rest result a a
-untold style rest (Ok u) a = tt
-untold style rest (Err (stops.Refused r)) a = tt
-untold style rest (Err (stops.Halted halt)) a = tt
-
--- its payload was read whole, and its turn done
-pub record_kept : (style : Style) (f : Bundle → Output) (more : Bundle → Instances → Output) (turn : List ℕ → Turn Instances) (head : Head) (payload : List ℕ) (before after : Option Bundle) (now : Instances) (result : Result (Unit {0}) Stop) (a : Option (List ℕ))
-    → ((octets : List ℕ) (b : Bundle) → f (before_bundle (item_of head octets) b) ≡ after_turn style (turn octets) (more b)) → TakesRecord head (λ octets. octets ≡ payload) before after → Keeps (turn payload) now result
-    → Steps style (option_map f before) (option_map (λ b. more b now) after) result a a
-record_kept style f more turn head payload None after now result a law p keeps = untold style (option_map (λ b. more b now) after) result a
-record_kept style f more turn head payload (Some before) None now result a law p keeps = absurd p
-record_kept style f more turn head payload (Some before) (Some after) now result a law p keeps =
-    let (octets, is, same) = p in
-    let there : f before ≡ after_turn style (turn payload) (more after) = ap f is ∙ law octets after ∙ ap (λ (l : List ℕ). after_turn style (turn l) (more after)) same in
-    subst (λ (o : Output). Steps style (Some o) (Some (more after now)) result a a) (sym there) (kept_on style (turn payload) (more after) now result a keeps)

@@ -13,7 +13,7 @@ use Rattle.tool_runs.specs.declared.output.halt.Halt.TheVariants as halts
 use Rattle.tool_runs.specs.declared.output.stop.Stop.{Stop}
 use Rattle.tool_runs.specs.declared.output.stop.Stop.TheVariants as stops
 use Rattle.tool_runs.specs.output.Outputs.{Output, Turn, goes_on, over, after_pieces, after_turn, refused}
-use Rattle.tool_runs.specs.output.Runs.{Leads, Steps, TakesRecord, Writes}
+use Rattle.tool_runs.specs.output.Runs.{Leads, Steps, Writes}
 use Rattle.tool_runs.proofs.OfOutput.Written.{leads_piece, piece_is_cut, stops_here}
 use Rattle.tool_samples.specs.values.Values.{Turned}
 
@@ -34,21 +34,3 @@ pub no_piece : (T : Type 0) (style : Style) (turn : Turn (Unit {0})) (rest : Out
 no_piece T style turn rest (stops.Halted halt) a p = stops_here (Some (after_turn style turn (λ u. rest))) halt a
 no_piece T style (goes_on pieces u) rest (stops.Refused r) a p = absurd p
 no_piece T style (over said) rest (stops.Refused r) a p = ([], ap (refused style) (sym p), Appends-nil a)
-
--- ---- the record
-
-untold : (style : Style) (rest : Option Output) (result : Result (Unit {0}) Stop) (old new : Option (List ℕ)) → Steps style None rest result old new
-untold style rest (Ok u) old new = tt
-untold style rest (Err (stops.Refused r)) old new = tt
-untold style rest (Err (stops.Halted halt)) old new = tt
-
--- its payload was read whole, and its turn done
-pub record_taken : (style : Style) (f h : Bundle → Output) (turn : List ℕ → Turn (Unit {0})) (head : Head) (payload : List ℕ) (before after : Option Bundle) (result : Result (Unit {0}) Stop) (old new : Option (List ℕ))
-    → ((octets : List ℕ) (more : Bundle) → f (before_bundle (item_of head octets) more) ≡ after_turn style (turn octets) (λ u. h more)) → TakesRecord head (λ octets. octets ≡ payload) before after
-    → ((rest : Output) → Steps style (Some (after_turn style (turn payload) (λ u. rest))) (Some rest) result old new) → Steps style (option_map f before) (option_map h after) result old new
-record_taken style f h turn head payload None after result old new law p q = untold style (option_map h after) result old new
-record_taken style f h turn head payload (Some before) None result old new law p q = absurd p
-record_taken style f h turn head payload (Some before) (Some after) result old new law p q =
-    let (octets, is, same) = p in
-    let there : f before ≡ after_turn style (turn payload) (λ u. h after) = ap f is ∙ law octets after ∙ ap (λ (l : List ℕ). after_turn style (turn l) (λ u. h after)) same in
-    subst (λ (o : Output). Steps style (Some o) (Some (h after)) result old new) (sym there) (q (h after))

@@ -11,10 +11,10 @@ use crate::instances::lines::say_instances;
 use crate::instances::putting::put_sample;
 use key_instances::Instances;
 use std::alloc::Global;
-use tool_runs::output::{Stop, Style, Turns, payload_of};
+use tool_runs::output::{Payloads, Stop, Style, is_sample};
 use type_trees::XType;
-use xt_io::{BundleReader, Head, Kind, Sink, Source};
-use xt_lists::OutOfMemory;
+use xt_io::{Head, Kind, Sink};
+use xt_lists::{OutOfMemory, Text};
 use xt_shapes::Rep;
 
 /// The last values of each of at most 65,536 keys, as the reader's type sees the samples of a representation. Nothing is written of them
@@ -53,7 +53,7 @@ impl LastSamples {
     }
 }
 
-impl Turns for LastSamples {
+impl Payloads for LastSamples {
     ghost use Rattle.type_trees.specs.View.{tree};
     ghost use Rattle.key_instances.specs.Caches.{instances};
     ghost use Rattle.xt_io.specs.declared.Kind.TheVariants.{Sample};
@@ -69,28 +69,18 @@ impl Turns for LastSamples {
     ghost to_write = { λ s k bundle. instances_body s.cache.depth s.rep (tree s.ty) (instances s.cache) k bundle };
 
     fn takes(kind: Kind) -> bool {
-        match kind {
-            Kind::Sample => true,
-            Kind::Object | Kind::Idl | Kind::Json | Kind::Note => false,
-        }
+        is_sample(kind)
     }
 
-    fn turn<S: Source, K: Sink>(
+    fn take<K: Sink>(
         &mut self,
         alloc: Global,
         _number: u32,
-        head: Head,
-        reader: BundleReader<S>,
+        _head: Head,
+        payload: Text,
         _sink: &mut K,
-    ) -> (BundleReader<S>, Result<(), Stop>) {
-        let mut reader = reader;
-        match payload_of(alloc, head, &mut reader) {
-            Err(stop) => (reader, Err(stop)),
-            Ok(payload) => {
-                let kept = put_sample(alloc, self.rep, &self.ty, payload.octets(), &mut self.cache);
-                (reader, kept)
-            }
-        }
+    ) -> Result<(), Stop> {
+        put_sample(alloc, self.rep, &self.ty, payload.octets(), &mut self.cache)
     }
 
     ghost at_fault = { λ s k fault. run_at_fault Lines (taking Sample (instances_turn s.cache.depth s.rep (tree s.ty))) (instances_end (tree s.ty)) (instances s.cache) k fault };

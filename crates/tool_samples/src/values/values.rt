@@ -3,9 +3,10 @@ ghost use Rattle.projection_laws.specs.Premises.{IsValid};
 
 use crate::values::writing::write_value;
 use std::alloc::Global;
-use tool_runs::output::{Stop, Turns, payload_of};
+use tool_runs::output::{Payloads, Stop};
 use type_trees::XType;
-use xt_io::{BundleReader, Head, Kind, Sink, Source};
+use xt_io::{Head, Kind, Sink};
+use xt_lists::Text;
 use xt_shapes::Rep;
 
 /// A sample for each JSON value of a type, in a representation.
@@ -26,7 +27,7 @@ impl Values {
     }
 }
 
-impl Turns for Values {
+impl Payloads for Values {
     ghost use Rattle.type_trees.specs.View.{tree};
     ghost use Rattle.xt_io.specs.declared.Kind.TheVariants.{Json};
     ghost use Rattle.tool_runs.specs.declared.output.ending.Style.TheVariants.{Records};
@@ -47,29 +48,15 @@ impl Turns for Values {
         }
     }
 
-    fn turn<S: Source, K: Sink>(
+    fn take<K: Sink>(
         &mut self,
         alloc: Global,
         number: u32,
-        head: Head,
-        reader: BundleReader<S>,
+        _head: Head,
+        payload: Text,
         sink: &mut K,
-    ) -> (BundleReader<S>, Result<(), Stop>) {
-        let mut reader = reader;
-        match payload_of(alloc, head, &mut reader) {
-            Err(stop) => (reader, Err(stop)),
-            Ok(payload) => {
-                let written = write_value(
-                    alloc,
-                    &self.ty,
-                    self.rep,
-                    number,
-                    payload.octets(),
-                    sink,
-                );
-                (reader, written)
-            }
-        }
+    ) -> Result<(), Stop> {
+        write_value(alloc, &self.ty, self.rep, number, payload.octets(), sink)
     }
 
     ghost at_fault = { λ s k fault. run_at_fault Records (taking Json (write_turn s.rep (tree s.ty))) (λ u. finished) tt k fault };

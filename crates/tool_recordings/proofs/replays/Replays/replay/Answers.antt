@@ -5,7 +5,7 @@ use Rattle.tool_runs.specs.output.Runs.{Steps}
 use Rattle.tool_samples.specs.lines.Lines.{sample_line}
 use Rattle.xt_recorder.specs.Replaying.{reader_of, state_of}
 use Rattle.tool_recordings.proofs.Stepped.{sample_stepped}
-use Rattle.tool_recordings.proofs.replays.Replays.take.Goals as goal
+use Rattle.tool_recordings.proofs.replays.Replays.replay.Goals as goal
 
 pub returns-in-Some-clause-steps : goal.returns-in-Some-clause-steps
 returns-in-Some-clause-steps g c more =

@@ -1,0 +1,38 @@
+use Rattle.std.proofs.Common.{◌≡◌, ◌≤◌, ℕ, ◌+◌, List, length, Err, Some, ap, sym, subst}
+use Rattle.std.specs.Io.KnownBytes.{Appends}
+use Rattle.xt_io.specs.Outside.{AppendsPrefix}
+use Rattle.xt_io.specs.declared.Kind.TheVariants.{Sample}
+use Rattle.xt_io.specs.Bundles.{item_of}
+use Rattle.xt_io.specs.Records.{record_octets}
+use Rattle.tool_runs.specs.declared.output.ending.Style.TheVariants.{Records}
+use Rattle.tool_runs.specs.declared.output.halt.Halt.{Halt}
+use Rattle.tool_runs.specs.declared.output.halt.Halt.TheVariants.{ReadFault}
+use Rattle.tool_runs.specs.output.Outputs.{Output, finished}
+use Rattle.tool_runs.specs.output.Runs.{Leads, Writes}
+use Rattle.tool_runs.proofs.OfOutput.Turning.{run_at_taken}
+use Rattle.tool_runs.proofs.OfOutput.Written.{leads_piece, piece_is_cut}
+use Rattle.tool_recordings.specs.Recording.{record_turn, samples_recorded}
+use Rattle.tool_recordings.proofs.Kept.{sample_limit}
+use Rattle.tool_recordings.proofs.recorded.RecordedPayloads.take.Goals as goal
+
+pub write_sample-requires : goal.write_sample-requires
+write_sample-requires g c = subst (λ (l : List ℕ). length l ≤ 1048576) (sym c.octets.ensures) (subst (λ (n : ℕ). length c.args.payload ≤ n) (sample_limit c.args._head.kind c.requires.taken) c.requires.size)
+
+pub returns-in-Ok-clause-steps : goal.returns-in-Ok-clause-steps
+returns-in-Ok-clause-steps g c more =
+    let end : Unit {0} → Output = λ u. finished in
+    let rest = samples_recorded (c.args._number + 1) more in
+    let old = g.K.Sink.taken c.args.sink.now in
+    let new = g.K.Sink.taken c.write_sample.new.sink in
+    let text = subst (λ (l : List ℕ). Appends old new (record_octets Sample l)) c.octets.ensures c.in-Ok.ensures.whole in
+    subst (λ (o : Output). Leads (Some o) (Some rest) old new) (sym (run_at_taken Records Sample record_turn end tt c.args._number (item_of c.args._head c.args.payload) more c.requires.taken)) (leads_piece rest (record_octets Sample c.args.payload) old new text)
+
+pub returns-clause-steps : goal.returns-clause-steps
+returns-clause-steps g c more =
+    let end : Unit {0} → Output = λ u. finished in
+    let rest = samples_recorded (c.args._number + 1) more in
+    let old = g.K.Sink.taken c.args.sink.now in
+    let new = g.K.Sink.taken c.write_sample.new.sink in
+    let part = subst (λ (l : List ℕ). AppendsPrefix old new (record_octets Sample l)) c.octets.ensures c.in-Err.ensures.prefix in
+    let no_read = λ (h : c.in-Err.halt ≡ ReadFault). c.in-Err.ensures.halts.no_read (ap (λ (e : Halt). Err e) h) in
+    subst (λ (o : Output). Writes (Some o) (Err c.in-Err.halt) old new) (sym (run_at_taken Records Sample record_turn end tt c.args._number (item_of c.args._head c.args.payload) more c.requires.taken)) (piece_is_cut rest (record_octets Sample c.args.payload) c.in-Err.halt old new part no_read)
