@@ -39,12 +39,10 @@ impl<'a> Prepares for Keeping<'a> {
         requires within { AreWithin records.now }
         ensures { Comes (instances_lines (pair_view self.now.pair) self.now.depth.count records.now) (λ run number body. ⟦<LastSamples as Turns>⟧.to_write run number body) result }
     {
-        match reader_type(alloc, &self.pair, records) {
-            Err(stop) => Err(stop),
-            Ok(ty) => match LastSamples::new(alloc, self.pair.rep, ty, self.depth.count) {
-                Ok(run) => Ok(run),
-                Err(_) => Err(Stop::Halted(Halt::OutOfMemory)),
-            },
+        let ty = reader_type(alloc, &self.pair, records)?;
+        match LastSamples::new(alloc, self.pair.rep, ty, self.depth.count) {
+            Ok(run) => Ok(run),
+            Err(_) => Err(Stop::Halted(Halt::OutOfMemory)),
         }
     }
 

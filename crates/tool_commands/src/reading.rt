@@ -1,18 +1,16 @@
-ghost use Rattle.std.specs.Prelude.{◌≡◌, ◌≤◌, ℕ, [], Some, length};
-ghost use Rattle.xt_io.specs.Bundles.{nothing};
-ghost use Rattle.tool_runs.specs.output.Outputs.{Output, after_pieces, finished};
-ghost use Rattle.tool_runs.specs.output.Runs.{Comes, Steps, StopsWriting};
+ghost use Rattle.std.specs.Prelude.{◌≡◌, ◌≤◌, length};
+ghost use Rattle.tool_runs.specs.output.Runs.{Comes};
 ghost use Rattle.tool_runs.specs.front.Reading.{AreWithin};
 ghost use Rattle.tool_words.specs.View.{pair_view};
 ghost use Rattle.tool_commands.specs.Commands.{convert_records, read_lines};
 
 use std::alloc::Global;
-use tool_runs::Prepares;
+use tool_runs::Quiet;
 use tool_runs::output::{Stop, Style, Turns};
 use tool_samples::{Conversions, Lines, Samples};
 use tool_verdicts::reader_type;
 use tool_words::Pair;
-use xt_io::{Item, Sink};
+use xt_io::Item;
 use xt_shapes::Rep;
 
 /// A line for each sample, as the reader's type sees it.
@@ -21,15 +19,10 @@ pub struct Reading<'a> {
     pub pair: Pair<'a>,
 }
 
-impl<'a> Prepares for Reading<'a> {
-    ghost use Rattle.type_trees.specs.View.{tree};
-    ghost use Rattle.xt_io.specs.declared.Kind.TheVariants.{Sample};
-    ghost use Rattle.tool_runs.specs.declared.output.ending.Style.TheVariants as styles;
-    ghost use Rattle.tool_samples.specs.lines.Lines.{read_turn};
+impl<'a> Quiet for Reading<'a> {
+    ghost use Rattle.tool_runs.proofs.OfOutput.Turning.{run_at_end};
 
     type Run = Samples<Lines>;
-
-    ghost opening = { λ run. [] };
 
     ghost prepared = { λ s records. read_lines (pair_view s.pair) records };
 
@@ -44,29 +37,11 @@ impl<'a> Prepares for Reading<'a> {
         requires within { AreWithin records.now }
         ensures { Comes (read_lines (pair_view self.now.pair) records.now) (λ run number body. ⟦<Samples<Lines> as Turns>⟧.to_write run number body) result }
     {
-        match reader_type(alloc, &self.pair, records) {
-            Err(stop) => Err(stop),
-            Ok(ty) => Ok(Samples::planned(alloc, self.pair.rep, ty, Lines)),
-        }
+        let ty = reader_type(alloc, &self.pair, records)?;
+        Ok(Samples::planned(alloc, self.pair.rep, ty, Lines))
     }
 
-    #[tactic(auto, using(crate::proofs::Quiet::before))]
-    fn begin<K: Sink>(_run: &Samples<Lines>, _alloc: Global, _sink: &mut K) -> Result<(), Stop>
-        ensures steps { (rest : Output) → Steps Style.Lines (Some (after_pieces [] rest)) (Some rest) result (K.taken _sink.old) (K.taken _sink.new) }
-        ensures stops { StopsWriting (K.faults _sink.old) (K.faults _sink.new) result }
-        ensures same { K.name _sink.new ≡ K.name _sink.old }
-    {
-        Ok(())
-    }
-
-    #[tactic(auto, using(crate::proofs::Quiet::behind))]
-    fn end<K: Sink>(_run: &Samples<Lines>, _alloc: Global, _sink: &mut K) -> Result<(), Stop>
-        ensures steps { (number : ℕ) → Steps Style.Lines (Some (⟦<Samples<Lines> as Turns>⟧.to_write _run.now number nothing)) (Some finished) result (K.taken _sink.old) (K.taken _sink.new) }
-        ensures stops { StopsWriting (K.faults _sink.old) (K.faults _sink.new) result }
-        ensures same { K.name _sink.new ≡ K.name _sink.old }
-    {
-        Ok(())
-    }
+    ghost at_end = { λ run number. run_at_end _ _ _ _ number };
 }
 
 /// A sample of the reader's type for each sample, in that or another representation.
@@ -76,15 +51,10 @@ pub struct Converting<'a> {
     pub to: Rep,
 }
 
-impl<'a> Prepares for Converting<'a> {
-    ghost use Rattle.type_trees.specs.View.{tree};
-    ghost use Rattle.xt_io.specs.declared.Kind.TheVariants.{Sample};
-    ghost use Rattle.tool_runs.specs.declared.output.ending.Style.TheVariants as styles;
-    ghost use Rattle.tool_samples.specs.lines.Lines.{convert_turn};
+impl<'a> Quiet for Converting<'a> {
+    ghost use Rattle.tool_runs.proofs.OfOutput.Turning.{run_at_end};
 
     type Run = Samples<Conversions>;
-
-    ghost opening = { λ run. [] };
 
     ghost prepared = { λ s records. convert_records (pair_view s.pair) s.to records };
 
@@ -99,34 +69,10 @@ impl<'a> Prepares for Converting<'a> {
         requires within { AreWithin records.now }
         ensures { Comes (convert_records (pair_view self.now.pair) self.now.to records.now) (λ run number body. ⟦<Samples<Conversions> as Turns>⟧.to_write run number body) result }
     {
-        match reader_type(alloc, &self.pair, records) {
-            Err(stop) => Err(stop),
-            Ok(ty) => {
-                let form = Conversions { to: self.to };
-                Ok(Samples::planned(alloc, self.pair.rep, ty, form))
-            }
-        }
+        let ty = reader_type(alloc, &self.pair, records)?;
+        let form = Conversions { to: self.to };
+        Ok(Samples::planned(alloc, self.pair.rep, ty, form))
     }
 
-    #[tactic(auto, using(crate::proofs::Quiet::before))]
-    fn begin<K: Sink>(
-        _run: &Samples<Conversions>,
-        _alloc: Global,
-        _sink: &mut K,
-    ) -> Result<(), Stop>
-        ensures steps { (rest : Output) → Steps Style.Records (Some (after_pieces [] rest)) (Some rest) result (K.taken _sink.old) (K.taken _sink.new) }
-        ensures stops { StopsWriting (K.faults _sink.old) (K.faults _sink.new) result }
-        ensures same { K.name _sink.new ≡ K.name _sink.old }
-    {
-        Ok(())
-    }
-
-    #[tactic(auto, using(crate::proofs::Quiet::behind))]
-    fn end<K: Sink>(_run: &Samples<Conversions>, _alloc: Global, _sink: &mut K) -> Result<(), Stop>
-        ensures steps { (number : ℕ) → Steps Style.Records (Some (⟦<Samples<Conversions> as Turns>⟧.to_write _run.now number nothing)) (Some finished) result (K.taken _sink.old) (K.taken _sink.new) }
-        ensures stops { StopsWriting (K.faults _sink.old) (K.faults _sink.new) result }
-        ensures same { K.name _sink.new ≡ K.name _sink.old }
-    {
-        Ok(())
-    }
+    ghost at_end = { λ run number. run_at_end _ _ _ _ number };
 }

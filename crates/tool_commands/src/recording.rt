@@ -43,10 +43,8 @@ impl<'a> Prepares for Recording<'a> {
         requires within { AreWithin records.now }
         ensures { Comes (record_records (reference_view self.now.reference) self.now.rep records.now) (λ run number body. after_pieces (opening_pieces run.pool run.id run.rep) (⟦<Recorded as Turns>⟧.to_write run number body)) result }
     {
-        match id_and_pool(alloc, &self.reference, records) {
-            Err(stop) => Err(stop),
-            Ok((id, pool)) => Ok(Recorded::new(pool, id, self.rep)),
-        }
+        let (id, pool) = id_and_pool(alloc, &self.reference, records)?;
+        Ok(Recorded::new(pool, id, self.rep))
     }
 
     fn begin<K: Sink>(run: &Recorded, alloc: Global, sink: &mut K) -> Result<(), Stop>

@@ -1,18 +1,16 @@
-ghost use Rattle.std.specs.Prelude.{◌≡◌, ◌≤◌, ℕ, [], Some, length};
-ghost use Rattle.xt_io.specs.Bundles.{nothing};
-ghost use Rattle.tool_runs.specs.output.Outputs.{Output, after_pieces, finished};
-ghost use Rattle.tool_runs.specs.output.Runs.{Comes, Steps, StopsWriting};
+ghost use Rattle.std.specs.Prelude.{◌≡◌, ◌≤◌, length};
+ghost use Rattle.tool_runs.specs.output.Runs.{Comes};
 ghost use Rattle.tool_runs.specs.front.Reading.{AreWithin};
 ghost use Rattle.tool_words.specs.View.{reference_view};
 ghost use Rattle.tool_commands.specs.Commands.{replay_lines};
 
 use std::alloc::Global;
 use tool_recordings::Replays;
-use tool_runs::Prepares;
+use tool_runs::Quiet;
 use tool_runs::output::{Stop, Style, Turns};
 use tool_verdicts::top_and_pool;
 use tool_words::Reference;
-use xt_io::{Item, Sink};
+use xt_io::Item;
 
 /// Recordings, as the reader's type sees them.
 #[derive(Clone, Copy)]
@@ -20,10 +18,10 @@ pub struct Replaying<'a> {
     pub reference: Reference<'a>,
 }
 
-impl<'a> Prepares for Replaying<'a> {
-    type Run = Replays;
+impl<'a> Quiet for Replaying<'a> {
+    ghost use Rattle.tool_runs.proofs.OfOutput.Turning.{run_at_end};
 
-    ghost opening = { λ run. [] };
+    type Run = Replays;
 
     ghost prepared = { λ s records. replay_lines (reference_view s.reference) records };
 
@@ -38,27 +36,9 @@ impl<'a> Prepares for Replaying<'a> {
         requires within { AreWithin records.now }
         ensures { Comes (replay_lines (reference_view self.now.reference) records.now) (λ run number body. ⟦<Replays as Turns>⟧.to_write run number body) result }
     {
-        match top_and_pool(alloc, &self.reference, records) {
-            Err(stop) => Err(stop),
-            Ok((ty, pool)) => Ok(Replays::new(alloc, ty, pool)),
-        }
+        let (ty, pool) = top_and_pool(alloc, &self.reference, records)?;
+        Ok(Replays::new(alloc, ty, pool))
     }
 
-    #[tactic(auto, using(crate::proofs::Quiet::before))]
-    fn begin<K: Sink>(_run: &Replays, _alloc: Global, _sink: &mut K) -> Result<(), Stop>
-        ensures steps { (rest : Output) → Steps Style.Lines (Some (after_pieces [] rest)) (Some rest) result (K.taken _sink.old) (K.taken _sink.new) }
-        ensures stops { StopsWriting (K.faults _sink.old) (K.faults _sink.new) result }
-        ensures same { K.name _sink.new ≡ K.name _sink.old }
-    {
-        Ok(())
-    }
-
-    #[tactic(auto, using(crate::proofs::Quiet::behind))]
-    fn end<K: Sink>(_run: &Replays, _alloc: Global, _sink: &mut K) -> Result<(), Stop>
-        ensures steps { (number : ℕ) → Steps Style.Lines (Some (⟦<Replays as Turns>⟧.to_write _run.now number nothing)) (Some finished) result (K.taken _sink.old) (K.taken _sink.new) }
-        ensures stops { StopsWriting (K.faults _sink.old) (K.faults _sink.new) result }
-        ensures same { K.name _sink.new ≡ K.name _sink.old }
-    {
-        Ok(())
-    }
+    ghost at_end = { λ run number. run_at_end _ _ _ _ number };
 }

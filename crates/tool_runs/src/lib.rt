@@ -6,6 +6,8 @@ mod closing;
 mod commands;
 pub mod front;
 pub mod output;
+mod quiet;
 
 pub use closing::close_body;
 pub use commands::{Answers, Prepares, answer_command, body_command, say_pieces, stopped};
+pub use quiet::Quiet;

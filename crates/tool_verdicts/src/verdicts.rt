@@ -81,13 +81,9 @@ pub fn assignable(
     ensures comes { Comes (spec.assignable (pair_view pair.now) (map declared_view records.now, pool.now)) tree result }
     ensures valid { IfOk result IsValid }
 {
-    match pair_named(alloc, &pair.reader, &pair.writer, records, pool) {
-        Err(stop) => Err(stop),
-        Ok(types) => match judged(alloc, pair, pool, &types) {
-            Err(stop) => Err(stop),
-            Ok(()) => Ok(types.0.ty),
-        },
-    }
+    let types = pair_named(alloc, &pair.reader, &pair.writer, records, pool)?;
+    judged(alloc, pair, pool, &types)?;
+    Ok(types.0.ty)
 }
 
 /// The reader's type of a pair that words name among what the records of a front declare, where it is assignable from the writer's. It
@@ -98,10 +94,8 @@ pub fn reader_type(alloc: Global, pair: &Pair<'_>, records: &[Item]) -> Result<X
     ensures comes { Comes (spec.reader_type (pair_view pair.now) records.now) tree result }
     ensures valid { IfOk result IsValid }
 {
-    match declare(alloc, records) {
-        Err(stop) => Err(stop),
-        Ok((declared, pool)) => assignable(alloc, pair, declared.as_slice(), &pool),
-    }
+    let (declared, pool) = declare(alloc, records)?;
+    assignable(alloc, pair, declared.as_slice(), &pool)
 }
 
 /// The structure or union that a word names among what the records of a front declare. It reads and writes nothing.
@@ -111,13 +105,9 @@ pub fn top_type(alloc: Global, reference: &Reference<'_>, records: &[Item]) -> R
     ensures comes { Comes (spec.top_type (reference_view reference.now) records.now) tree result }
     ensures valid { IfOk result IsValid }
 {
-    match declare(alloc, records) {
-        Err(stop) => Err(stop),
-        Ok((declared, pool)) => match top_named(alloc, reference, declared.as_slice(), &pool) {
-            Err(stop) => Err(stop),
-            Ok(found) => Ok(found.ty),
-        },
-    }
+    let (declared, pool) = declare(alloc, records)?;
+    let found = top_named(alloc, reference, declared.as_slice(), &pool)?;
+    Ok(found.ty)
 }
 
 /// The structure or union that a word names among what the records of a front declare, with the pool of their objects. It reads and writes
@@ -133,13 +123,9 @@ pub fn top_and_pool(
     ensures valid { IfOk result (λ found. IsValid found.0) }
     ensures top { IfOk result (λ found. is_top (type_shape found.0) ≡ true) }
 {
-    match declare(alloc, records) {
-        Err(stop) => Err(stop),
-        Ok((declared, pool)) => match top_named(alloc, reference, declared.as_slice(), &pool) {
-            Err(stop) => Err(stop),
-            Ok(found) => Ok((found.ty, pool)),
-        },
-    }
+    let (declared, pool) = declare(alloc, records)?;
+    let found = top_named(alloc, reference, declared.as_slice(), &pool)?;
+    Ok((found.ty, pool))
 }
 
 /// The identifier of the structure or union that a word names among what the records of a front declare, with the pool of their objects, in
@@ -154,11 +140,7 @@ pub fn id_and_pool(
     ensures comes { Comes (spec.id_and_pool (reference_view reference.now) records.now) (λ found. (found.0, found.1)) result }
     ensures resolves { IfOk result (λ found. Resolves found.1 found.0) }
 {
-    match declare(alloc, records) {
-        Err(stop) => Err(stop),
-        Ok((declared, pool)) => match id_named(alloc, reference, declared.as_slice(), &pool) {
-            Err(stop) => Err(stop),
-            Ok(id) => Ok((id, pool)),
-        },
-    }
+    let (declared, pool) = declare(alloc, records)?;
+    let id = id_named(alloc, reference, declared.as_slice(), &pool)?;
+    Ok((id, pool))
 }

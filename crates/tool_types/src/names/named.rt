@@ -117,13 +117,9 @@ pub fn top_named(
     ensures id { IfOk result (λ found. hash_meant (reference_view reference.now).word (spec.meant (reference_view reference.now).form (map declared_view records.now, pool.now)) ≡ Ok found.id) }
     ensures found { IfOk result (IsFound pool.now) }
 {
-    match type_named(alloc, reference, records, pool) {
-        Err(stop) => Err(stop),
-        Ok(found) => match topped(alloc, reference.word, &found.ty) {
-            Err(stop) => Err(stop),
-            Ok(()) => Ok(found),
-        },
-    }
+    let found = type_named(alloc, reference, records, pool)?;
+    topped(alloc, reference.word, &found.ty)?;
+    Ok(found)
 }
 
 /// The identifier of the structure or union that a word names. It has a type in the pool.
@@ -138,10 +134,8 @@ pub fn id_named(
     ensures comes { Comes (named_id (reference_view reference.now) (map declared_view records.now, pool.now)) (λ id. id) result }
     ensures resolves { IfOk result (λ id. Resolves pool.now id) }
 {
-    match top_named(alloc, reference, records, pool) {
-        Err(stop) => Err(stop),
-        Ok(found) => Ok(found.id),
-    }
+    let found = top_named(alloc, reference, records, pool)?;
+    Ok(found.id)
 }
 
 fn both_topped(
@@ -152,10 +146,8 @@ fn both_topped(
 ) -> Result<(), Stop>
     ensures { Comes (spec.both_topped (reference_view reader.now) (reference_view writer.now) (tree types.now.0.ty, tree types.now.1.ty)) (λ u. u) result }
 {
-    match topped(alloc, reader.word, &types.0.ty) {
-        Err(stop) => Err(stop),
-        Ok(()) => topped(alloc, writer.word, &types.1.ty),
-    }
+    topped(alloc, reader.word, &types.0.ty)?;
+    topped(alloc, writer.word, &types.1.ty)
 }
 
 fn both_named(
@@ -170,13 +162,9 @@ fn both_named(
     ensures comes { Comes (spec.both_named (reference_view reader.now) (reference_view writer.now) (map declared_view records.now, pool.now)) (λ types. (tree types.0.ty, tree types.1.ty)) result }
     ensures found { IfOk result (λ types. IsFound pool.now types.0 × IsFound pool.now types.1) }
 {
-    match type_named(alloc, reader, records, pool) {
-        Err(stop) => Err(stop),
-        Ok(left) => match type_named(alloc, writer, records, pool) {
-            Err(stop) => Err(stop),
-            Ok(right) => Ok((left, right)),
-        },
-    }
+    let left = type_named(alloc, reader, records, pool)?;
+    let right = type_named(alloc, writer, records, pool)?;
+    Ok((left, right))
 }
 
 /// The structures or unions that a reader's word and a writer's name. Both are found before either is looked at.
@@ -192,11 +180,7 @@ pub fn pair_named(
     ensures comes { Comes (spec.pair_named (reference_view reader.now) (reference_view writer.now) (map declared_view records.now, pool.now)) (λ types. (tree types.0.ty, tree types.1.ty)) result }
     ensures found { IfOk result (λ types. IsFound pool.now types.0 × IsFound pool.now types.1) }
 {
-    match both_named(alloc, reader, writer, records, pool) {
-        Err(stop) => Err(stop),
-        Ok(types) => match both_topped(alloc, reader, writer, &types) {
-            Err(stop) => Err(stop),
-            Ok(()) => Ok(types),
-        },
-    }
+    let types = both_named(alloc, reader, writer, records, pool)?;
+    both_topped(alloc, reader, writer, &types)?;
+    Ok(types)
 }
