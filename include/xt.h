@@ -48,6 +48,9 @@ enum { XT_XCDR1 = 1, XT_XCDR2 = 2 };
 /* Policies: any sum of these, 0 for the standard's own (7.6.3.7). */
 enum { XT_DISALLOW = 1, XT_STRING_BOUNDS = 2, XT_SEQUENCE_BOUNDS = 4, XT_ANY_NAMES = 8 };
 
+/* Flags of JSON: 0, and a float is a text of its bits, 8 or 16 hexadecimal digits, the highest first; or XT_NUMBERS. */
+enum { XT_NUMBERS = 1 };
+
 /* The types of a bundle of Idl and Object records. */
 uint32_t xt_types_open(xt_types *types, const uint8_t *bundle, size_t bundle_size, uint8_t *text, size_t room, size_t *needed);
 void xt_types_close(xt_types *types);
@@ -75,7 +78,8 @@ uint32_t xt_reader_open(xt_reader *reader, xt_types *types, const uint8_t *reads
                         size_t writes_size, uint32_t rep, uint32_t policy, uint8_t *text, size_t room, size_t *needed);
 void xt_reader_close(xt_reader *reader);
 
-/* A sample as JSON. No flag has a meaning yet: `flags` is 0, and any other number is XT_WORDS. */
+/* A sample as JSON. With XT_NUMBERS a finite float is a number with a point or an exponent, of which it is the nearest float, negative zero
+ * `-0.0`; a NaN or an infinity stays a text of its bits. */
 uint32_t xt_read(xt_reader *reader, const uint8_t *sample, size_t sample_size, uint32_t flags, uint8_t *text, size_t room, size_t *needed);
 
 /* A sample as a sample of the reader's type in the representation `to`, in little-endian order. */
@@ -85,7 +89,8 @@ uint32_t xt_convert(xt_reader *reader, const uint8_t *sample, size_t sample_size
  * XT_TOO_LARGE. */
 uint32_t xt_key_hash(xt_reader *reader, const uint8_t *sample, size_t sample_size, uint8_t *hash, size_t room, size_t *needed);
 
-/* A value of the reader's type in JSON as a sample in the representation `to`, in little-endian order. `flags` as for xt_read. */
+/* A value of the reader's type in JSON as a sample in the representation `to`, in little-endian order. With XT_NUMBERS a float may be a number:
+ * the nearest float, ties to even, and `RANGE PATH` where that isn't finite; or a text of its bits, as without. */
 uint32_t xt_write(xt_reader *reader, const uint8_t *json, size_t json_size, uint32_t to, uint32_t flags, uint8_t *out, size_t room,
                   size_t *needed);
 

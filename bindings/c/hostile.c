@@ -152,13 +152,14 @@ static const uint8_t object[] = {
     2, 0, 0, 0, 1, 0, 4, 0, 6, 0, 0, 0, 'n', 'o', 'r', 't', 'h', 0, 0, 0};
 
 static const struct {
-    const char *reads, *writes, *json;
+    const char *reads, *writes, *json, *numbers;
 } pairs[] = {
-    {"1/geo::Pose", "0/geo::Pose", "{\"vehicle\":\"rover-7\",\"east\":12500,\"north\":-300,\"heading\":90}"},
-    {"0/geo::Pose", "1/geo::Pose", "{\"vehicle\":\"rover-7\",\"east\":12500,\"north\":-300}"},
-    {"geo::Track", "geo::Track", "{\"number\":7,\"heights\":[1,2,3],\"names\":[[1,\"a\"],[2,\"bc\"]],\"colour\":[1,2,3,4]}"},
+    {"1/geo::Pose", "0/geo::Pose", "{\"vehicle\":\"rover-7\",\"east\":12500,\"north\":-300,\"heading\":90}", "{}"},
+    {"0/geo::Pose", "1/geo::Pose", "{\"vehicle\":\"rover-7\",\"east\":12500,\"north\":-300}", "{\"east\":1e2}"},
+    {"geo::Track", "geo::Track", "{\"number\":7,\"heights\":[1,2,3],\"names\":[[1,\"a\"],[2,\"bc\"]],\"colour\":[1,2,3,4]}", "[]"},
     {"geo::Scene", "geo::Scene", "{\"kind\":1,\"shape\":{\"d\":2,\"v\":\"disc\"},\"tracks\":[{\"number\":1,\"heights\":[],\"names\":[]}],"
-                                 "\"scale\":\"3ff0000000000000\",\"open\":true}"},
+                                 "\"scale\":\"3ff0000000000000\",\"open\":true}",
+     "{\"kind\":1,\"shape\":{\"d\":2,\"v\":\"disc\"},\"tracks\":[],\"scale\":-12.5e-3,\"open\":true}"},
 };
 
 enum { PAIRS = sizeof pairs / sizeof *pairs, READERS = 2 * PAIRS };
@@ -170,7 +171,7 @@ static xt_types types = XT_NULL;
 static struct {
     xt_reader reader;
     uint32_t rep;
-    const char *json;
+    const char *json, *numbers;
     struct octets sample, text;
 } readers[READERS];
 
@@ -203,6 +204,7 @@ static void open_reader(size_t k) {
     struct question q = opening(&readers[k].reader, &types, k);
     readers[k].rep = q.rep;
     readers[k].json = pairs[k % PAIRS].json;
+    readers[k].numbers = pairs[k % PAIRS].numbers;
     if (asked(&q, MOST_ROOM) == XT_NO) {
         q.second = q.first;
         q.second_size = q.first_size;
@@ -247,6 +249,20 @@ static void reads_the_same(size_t k) {
     if (status != XT_OK || needed != readers[k].text.size || memcmp(room, readers[k].text.at, needed)) wrong("not as before", "xt_read", status);
 }
 
+/* What is read with floats as numbers is written as the sample again. */
+static void comes_back(size_t k) {
+    struct octets text = {0};
+    struct question q = of_reader(READ, k, readers[k].sample.at, readers[k].sample.size);
+    q.flags = XT_NUMBERS;
+    must(asked(&q, MOST_ROOM), "a sample isn't read with numbers");
+    keep(&text);
+    q = of_reader(WRITE, k, text.at, text.size);
+    q.flags = XT_NUMBERS;
+    uint32_t status = asked(&q, MOST_ROOM);
+    if (status != XT_OK || needed != readers[k].sample.size || memcmp(room, readers[k].sample.at, needed)) wrong("another sample", "xt_write", status);
+    free_octets(&text);
+}
+
 static void names_the_same(void) {
     static const char id[] = "f2ee51fe8eaf794131137bbb7266ca";
     struct question q = of_types(TYPE_ID, &types, OCTETS("0/geo::Pose"));
@@ -283,6 +299,7 @@ static struct octets damaged(const void *octets, size_t size) {
 }
 
 static uint32_t any_rep(void) { return below(16) ? (uint32_t)(1 + below(2)) : (uint32_t)drawn(); }
+static uint32_t any_flags(void) { return below(32) ? (uint32_t)below(2) : (uint32_t)drawn(); }
 static uint32_t any_policy(void) { return below(16) ? (uint32_t)below(16) : (uint32_t)drawn(); }
 
 /* ---- rounds */
@@ -293,21 +310,23 @@ static void damaged_sample(void) {
     struct octets sample = below(8) ? damaged(readers[k].sample.at, readers[k].sample.size) : noise();
     struct question q = of_reader(asks[below(3)], k, sample.at, sample.size);
     if (q.call == CONVERT) q.rep = any_rep();
-    if (q.call == READ && below(32) == 0) q.flags = (uint32_t)drawn() | 1;
+    if (q.call == READ) q.flags = any_flags();
     uint32_t status = asked_anyhow(&q);
-    if (q.flags && status != XT_WORDS) wrong("a flag without a meaning", calls[q.call].name, status);
+    if (q.flags > XT_NUMBERS && status != XT_WORDS) wrong("a flag without a meaning", calls[q.call].name, status);
     free_octets(&sample);
     reads_the_same(k);
+    comes_back(k);
 }
 
 static void damaged_json(void) {
     size_t k = below(READERS);
-    struct octets json = below(8) ? damaged(OCTETS(readers[k].json)) : noise();
+    const char *whole = below(2) ? readers[k].json : readers[k].numbers;
+    struct octets json = below(8) ? damaged(OCTETS(whole)) : noise();
     struct question q = of_reader(WRITE, k, json.at, json.size);
     q.rep = any_rep();
-    if (below(32) == 0) q.flags = (uint32_t)drawn() | 1;
+    q.flags = any_flags();
     uint32_t status = asked_anyhow(&q);
-    if (q.flags && status != XT_WORDS) wrong("a flag without a meaning", calls[q.call].name, status);
+    if (q.flags > XT_NUMBERS && status != XT_WORDS) wrong("a flag without a meaning", calls[q.call].name, status);
     free_octets(&json);
     reads_the_same(k);
 }

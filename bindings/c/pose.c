@@ -10,11 +10,12 @@
 
 #define OCTETS(text) (const uint8_t *)(text), strlen(text)
 
-/* Three versions of a type. The second appends a member; the third has wider numbers. */
+/* Three versions of a type. The second appends a member; the third has wider numbers. And a type with floats. */
 static const char *const versions[] = {
     "module geo { @appendable struct Pose { @key string<32> vehicle; long east; long north; }; };",
     "module geo { @appendable struct Pose { @key string<32> vehicle; long east; long north; @optional long heading; }; };",
     "module geo { @appendable struct Pose { @key string<32> vehicle; long long east; long long north; }; };",
+    "module geo { @final struct Fix { double height; float speed; }; };",
 };
 
 static const char older[] = "{\"vehicle\":\"rover-7\",\"east\":12500,\"north\":-300}";
@@ -71,6 +72,12 @@ static struct answer write_value(xt_reader *reader, const char *json) {
     return a;
 }
 
+static struct answer write_numbers(xt_reader *reader, const char *json) {
+    struct answer a;
+    a.status = xt_write(reader, OCTETS(json), XT_XCDR2, XT_NUMBERS, a.octets, sizeof a.octets, &a.size);
+    return a;
+}
+
 static void show(const char *what, struct answer a) {
     if (a.status == XT_OK) printf("%s: %.*s\n", what, (int)a.size, (const char *)a.octets);
     else if (a.size == 0) printf("%s: refused %u\n", what, (unsigned)a.status);
@@ -124,6 +131,20 @@ static void show_newer(xt_reader *first, xt_reader *second) {
     show("no JSON", write_value(first, "{"));
 }
 
+/* A sample with floats, as numbers and as their bits. */
+static void show_floats(xt_types *types) {
+    xt_reader fixes = XT_NULL;
+    struct answer sample, a;
+    open_reader(&fixes, types, "geo::Fix", "geo::Fix");
+    sample = write_numbers(&fixes, "{\"height\":12.5,\"speed\":0.1}");
+    show_octets("floats", sample);
+    show("as bits", read_sample(&fixes, sample.octets, sample.size));
+    a.status = xt_read(&fixes, sample.octets, sample.size, XT_NUMBERS, a.octets, sizeof a.octets, &a.size);
+    show("as numbers", a);
+    show("too large for a float", write_numbers(&fixes, "{\"height\":1e39,\"speed\":1e39}"));
+    xt_reader_close(&fixes);
+}
+
 int main(void) {
     xt_types types = XT_NULL;
     xt_reader first = XT_NULL, second = XT_NULL;
@@ -132,6 +153,7 @@ int main(void) {
     show("no such type", open_reader(&first, &types, "geo::Plan", "geo::Pose"));
     open_reader(&first, &types, "0/geo::Pose", "1/geo::Pose");
     open_reader(&second, &types, "1/geo::Pose", "0/geo::Pose");
+    show_floats(&types);
     xt_types_close(&types);
     show_older(&first, &second);
     show_newer(&first, &second);

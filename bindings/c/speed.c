@@ -1,7 +1,8 @@
 /* How fast the calls are, and whether memory stays: speed [SAMPLES], 1,000,000 unless told otherwise.
  *
- * One thread, by processor time: a pose of 32 octets read, converted and written, types and readers opened, a front of 2,000 types, and a megabyte
- * of octets. It fails where the memory of the process grows between the first 1,000 samples and the last. */
+ * One thread, by processor time: a pose of 32 octets read, converted and written, and one of six doubles with floats as bits and as numbers, types
+ * and readers opened, a front of 2,000 types, and a megabyte of octets. It fails where the memory of the process grows between the first 1,000
+ * samples and the last. */
 #define _POSIX_C_SOURCE 200809L
 #include "octets.h"
 #include "xt.h"
@@ -9,14 +10,16 @@
 
 static const char older[] = "module geo { @appendable struct Pose { @key string<32> vehicle; long east; long north; }; };";
 static const char newer[] = "module geo { @appendable struct Pose { @key string<32> vehicle; long east; long north; @optional long heading; }; };";
+static const char floats[] = "module geo { @final struct Place { double east, north, height, roll, pitch, yaw; }; };";
+static const char place[] = "{\"east\":12500.25,\"north\":-300.5,\"height\":0.1,\"roll\":1e-3,\"pitch\":-0.0,\"yaw\":3.141592653589793}";
 static const char value[] = "{\"vehicle\":\"rover-7\",\"east\":12500,\"north\":-300}";
 
 enum { MANY_TYPES = 2000, MEGABYTE = 1000000, MAY_GROW_KIB = 128 };
 
-static uint8_t sample[64], text[1024];
-static size_t sample_size, needed;
+static uint8_t sample[64], place_sample[64], text[1024];
+static size_t sample_size, place_size, needed;
 static xt_types types = XT_NULL;
-static xt_reader reader = XT_NULL;
+static xt_reader reader = XT_NULL, places = XT_NULL;
 
 static double now(void) {
     struct timespec t;
@@ -48,6 +51,10 @@ static void read_one(void) { must(xt_read(&reader, sample, sample_size, 0, text,
 static void convert_one(void) { must(xt_convert(&reader, sample, sample_size, XT_XCDR1, text, sizeof text, &needed), "convert"); }
 static void write_one(void) { must(xt_write(&reader, OCTETS(value), XT_XCDR2, 0, text, sizeof text, &needed), "write"); }
 
+static void read_bits(void) { must(xt_read(&places, place_sample, place_size, 0, text, sizeof text, &needed), "read bits"); }
+static void read_numbers(void) { must(xt_read(&places, place_sample, place_size, XT_NUMBERS, text, sizeof text, &needed), "read numbers"); }
+static void write_numbers(void) { must(xt_write(&places, OCTETS(place), XT_XCDR2, XT_NUMBERS, text, sizeof text, &needed), "write numbers"); }
+
 static void open_one(void) {
     static struct octets bundle;
     if (!bundle.size) {
@@ -67,7 +74,8 @@ struct timed {
 };
 
 static const struct timed of_samples[] = {
-    {"poses read into JSON", read_one}, {"poses converted to XCDR1", convert_one}, {"poses written from JSON", write_one}};
+    {"poses read into JSON", read_one}, {"poses converted to XCDR1", convert_one}, {"poses written from JSON", write_one},
+    {"six doubles read into JSON, as bits", read_bits}, {"as numbers", read_numbers}, {"six doubles written from numbers", write_numbers}};
 static const struct timed of_openings[] = {{"fronts of two types opened", open_one}, {"readers opened", open_reader}};
 
 static void time_calls(const struct timed *all, size_t count, long times) {
@@ -149,14 +157,27 @@ static void time_megabyte(void) {
     free_octets(&all);
 }
 
+static void open_places(void) {
+    struct octets bundle = {0};
+    xt_types of_places = XT_NULL;
+    put_idl(&bundle, floats);
+    must(xt_types_open(&of_places, bundle.at, bundle.size, text, sizeof text, &needed), "types");
+    must(xt_reader_open(&places, &of_places, OCTETS("geo::Place"), OCTETS("geo::Place"), XT_XCDR2, 0, text, sizeof text, &needed), "reader");
+    must(xt_write(&places, OCTETS(place), XT_XCDR2, XT_NUMBERS, place_sample, sizeof place_sample, &place_size), "write");
+    xt_types_close(&of_places);
+    free_octets(&bundle);
+}
+
 int main(int count, char **words) {
     long samples = count > 1 ? strtol(words[1], NULL, 10) : 1000000;
     open_one();
     open_reader();
+    open_places();
     must(xt_write(&reader, OCTETS(value), XT_XCDR2, 0, sample, sizeof sample, &sample_size), "write");
     int kept = keeps_memory(samples);
     time_many_types();
     time_megabyte();
+    xt_reader_close(&places);
     xt_reader_close(&reader);
     xt_types_close(&types);
     if (!kept) printf("wrong: memory grew\n");

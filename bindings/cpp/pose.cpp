@@ -7,11 +7,12 @@
 #include <iostream>
 #include <utility>
 
-/* Three versions of a type. The second appends a member; the third has wider numbers. */
+/* Three versions of a type. The second appends a member; the third has wider numbers. And a type with floats. */
 static const char *const versions[] = {
     "module geo { @appendable struct Pose { @key string<32> vehicle; long east; long north; }; };",
     "module geo { @appendable struct Pose { @key string<32> vehicle; long east; long north; @optional long heading; }; };",
     "module geo { @appendable struct Pose { @key string<32> vehicle; long long east; long long north; }; };",
+    "module geo { @final struct Fix { double height; float speed; }; };",
 };
 
 static const char older[] = R"({"vehicle":"rover-7","east":12500,"north":-300})";
@@ -50,6 +51,14 @@ static void show_types(xt::types &types) {
     show_refusal("no such type", [&] { xt::reader(types, "geo::Plan", "geo::Pose"); });
 }
 
+static void show_floats(xt::reader fixes) {
+    const auto sample = fixes.write(R"({"height":12.5,"speed":0.1})");
+    show_octets("floats", sample);
+    std::cout << "as bits: " << fixes.read(sample, xt::floats::bits) << '\n';
+    std::cout << "as numbers: " << fixes.read(sample) << '\n';
+    show_refusal("too large for a float", [&] { fixes.write(R"({"height":1e39,"speed":1e39})"); });
+}
+
 static void show_newer(xt::reader &first, xt::reader &second) {
     std::cout << "read by the first: " << first.read(second.write(newer)) << '\n';
     show_refusal("a text for a number", [&] { first.write(R"({"vehicle":"rover-7","east":"far","north":-300})"); });
@@ -70,6 +79,7 @@ int main() {
     show_types(types);
     xt::reader first(types, "0/geo::Pose", "1/geo::Pose");
     xt::reader second(types, "1/geo::Pose", "0/geo::Pose");
+    show_floats(xt::reader(types, "geo::Fix", "geo::Fix"));
     types.close();
     show_older(first, second);
     show_newer(first, second);

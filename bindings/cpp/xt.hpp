@@ -37,6 +37,9 @@ private:
 
 enum class rep : std::uint32_t { xcdr1 = XT_XCDR1, xcdr2 = XT_XCDR2 };
 
+/* How floats stand in JSON: as texts of their bits, or as numbers where they are finite. */
+enum class floats : std::uint32_t { bits = 0, numbers = XT_NUMBERS };
+
 /* What a verdict is given under: a sum of XT_DISALLOW and its like, 0 for the standard's own. */
 using policy = std::uint32_t;
 
@@ -221,20 +224,21 @@ public:
     xt_reader *get() noexcept { return handle_.get(); }
 
     /* A sample as JSON. */
-    std::string read(octets sample) {
+    std::string read(octets sample, floats as = floats::numbers) {
         std::string json;
-        read_into(sample, json);
+        read_into(sample, json, as);
         return json;
     }
     /* The same into a text, whose memory serves for the next one too. */
-    void read_into(octets sample, std::string &json) {
-        answered_into(json, [&](auto... room) { return xt_read(get(), sample.data(), sample.size(), 0, room...); });
+    void read_into(octets sample, std::string &json, floats as = floats::numbers) {
+        answered_into(json, [&](auto... room) { return xt_read(get(), sample.data(), sample.size(), static_cast<std::uint32_t>(as), room...); });
     }
-    /* A value in JSON as a sample in little-endian order. */
-    std::vector<std::uint8_t> write(std::string_view json, rep to = rep::xcdr2) {
+    /* A value in JSON as a sample in little-endian order. With numbers a text of bits is read too. */
+    std::vector<std::uint8_t> write(std::string_view json, rep to = rep::xcdr2, floats as = floats::numbers) {
         const octets j = json;
-        return answered<std::vector<std::uint8_t>>(
-            [&](auto... room) { return xt_write(get(), j.data(), j.size(), static_cast<std::uint32_t>(to), 0, room...); });
+        return answered<std::vector<std::uint8_t>>([&](auto... room) {
+            return xt_write(get(), j.data(), j.size(), static_cast<std::uint32_t>(to), static_cast<std::uint32_t>(as), room...);
+        });
     }
     /* A sample as one of the reader's type in a representation, in little-endian order. */
     std::vector<std::uint8_t> convert(octets sample, rep to) {

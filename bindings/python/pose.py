@@ -5,11 +5,12 @@
 import ruhvelma
 from ruhvelma import Reader, Refused, Rep, Types
 
-# Three versions of a type. The second appends a member; the third has wider numbers.
+# Three versions of a type. The second appends a member; the third has wider numbers. And a type with floats.
 VERSIONS = (
     "module geo { @appendable struct Pose { @key string<32> vehicle; long east; long north; }; };",
     "module geo { @appendable struct Pose { @key string<32> vehicle; long east; long north; @optional long heading; }; };",
     "module geo { @appendable struct Pose { @key string<32> vehicle; long long east; long long north; }; };",
+    "module geo { @final struct Fix { double height; float speed; }; };",
 )
 OLDER = {"vehicle": "rover-7", "east": 12500, "north": -300}
 NEWER = {**OLDER, "heading": 90}
@@ -35,6 +36,14 @@ def show_types(types: Types) -> None:
     show_refusal("no such type", types.reader, "geo::Plan", "geo::Pose")
 
 
+def show_floats(fixes: Reader) -> None:
+    sample = fixes.write({"height": 12.5, "speed": 0.1})
+    print("floats:", sample.hex(" "))
+    print("as bits:", fixes.read_text(sample, numbers=False))
+    print("as numbers:", fixes.read_text(sample))
+    show_refusal("too large for a float", fixes.write, {"height": 1e39, "speed": 1e39})
+
+
 def show_newer(first: Reader, second: Reader) -> None:
     print("read by the first:", first.read_text(second.write(NEWER)))
     show_refusal("a text for a number", first.write, {**OLDER, "east": "far"})
@@ -55,6 +64,7 @@ def main() -> None:
         show_types(types)
         first = types.reader("0/geo::Pose", "1/geo::Pose")
         second = types.reader("1/geo::Pose", "0/geo::Pose")
+        show_floats(types.reader("geo::Fix"))
     with first, second:
         show_older(first, second)
         show_newer(first, second)

@@ -356,21 +356,22 @@ class Reader(Held):
     def __enter__(self) -> Reader:
         return self
 
-    def read_text(self, sample: bytes) -> str:
-        """A sample as the text of its JSON."""
-        return self._answered("xt_read", *octets_of(sample), 0).decode()
+    def read_text(self, sample: bytes, numbers: bool = True) -> str:
+        """A sample as the text of its JSON. A float that isn't finite, or any float without `numbers`, is a text of its bits."""
+        return self._answered("xt_read", *octets_of(sample), numbers).decode()
 
-    def read(self, sample: bytes, loads: Callable[[str], Any] = json.loads) -> Any:
+    def read(self, sample: bytes, loads: Callable[[str], Any] = json.loads, numbers: bool = True) -> Any:
         """A sample as a value of Python: what `loads` makes of its JSON."""
-        return loads(self.read_text(sample))
+        return loads(self.read_text(sample, numbers))
 
-    def write_text(self, text: str | bytes, rep: int = Rep.XCDR2) -> bytes:
-        """A value, given as the text of its JSON, as a sample in little-endian order."""
-        return self._answered("xt_write", *octets_of(text), rep, 0)
+    def write_text(self, text: str | bytes, rep: int = Rep.XCDR2, numbers: bool = True) -> bytes:
+        """A value, given as the text of its JSON, as a sample in little-endian order. A float is a number, or a text of its bits; without
+        `numbers` it is the latter."""
+        return self._answered("xt_write", *octets_of(text), rep, numbers)
 
-    def write(self, value: Any, rep: int = Rep.XCDR2, dumps: Callable[[Any], str] = json.dumps) -> bytes:
+    def write(self, value: Any, rep: int = Rep.XCDR2, dumps: Callable[[Any], str] = json.dumps, numbers: bool = True) -> bytes:
         """A value of Python, of which `dumps` makes JSON, as a sample in little-endian order."""
-        return self.write_text(dumps(value), rep)
+        return self.write_text(dumps(value), rep, numbers)
 
     def convert(self, sample: bytes, rep: int) -> bytes:
         """A sample as one of the reader's type in a representation, in little-endian order."""

@@ -7,6 +7,7 @@ import hashlib
 import os
 import pathlib
 import pickle
+import struct
 import subprocess
 import sys
 import tempfile
@@ -205,6 +206,37 @@ class OfSamples(TypesCase):
             reader = types.reader("A")
             for value in ({"s": "Grüße"}, {"s": "\U0001f600\n\""}, {"s": {"hex": "ff01"}}, {"s": ""}):
                 self.assertEqual(reader.read(reader.write(value)), value)
+
+    def test_floats(self):
+        with Types("@final struct A { float f; double g; };") as types:
+            reader = types.reader("A")
+            sample = reader.write({"f": 0.1, "g": -0.0})
+            self.assertEqual(sample.hex(), "00070000cdcccc3d0000000000000080")
+            self.assertEqual(reader.read_text(sample), '{"f":0.1,"g":-0.0}')
+            self.assertEqual(reader.read(sample), {"f": 0.1, "g": -0.0})
+            self.assertEqual(reader.read(sample, numbers=False), {"f": "3dcccccd", "g": "8000000000000000"})
+            self.assertEqual(reader.write({"f": "3dcccccd", "g": "8000000000000000"}), sample)
+            self.assertEqual(reader.write({"f": "3dcccccd", "g": "8000000000000000"}, numbers=False), sample)
+            self.is_refused(ruhvelma.BadJson, 10, "KIND /0", reader.write, {"f": 0.1, "g": -0.0}, numbers=False)
+
+    def test_floats_that_are_not_finite(self):
+        with Types("@final struct A { float f; double g; };") as types:
+            reader = types.reader("A")
+            value = {"f": "7f800000", "g": "7ff8000000000001"}
+            self.assertEqual(reader.read(reader.write(value)), value)
+            self.is_refused(ruhvelma.BadJson, 10, "syntax", reader.write, {"f": float("nan"), "g": 0})
+            self.is_refused(ruhvelma.BadJson, 10, "RANGE /0", reader.write, {"f": 1e39, "g": 0})
+            self.is_refused(ruhvelma.BadJson, 10, "RANGE /1", reader.write_text, '{"f":0,"g":1e999}')
+            self.is_refused(ruhvelma.BadJson, 10, "TEXT /0", reader.write, {"f": "", "g": 0})
+
+    def test_nearest_floats(self):
+        with Types("@final struct A { sequence<float> f; sequence<double> g; };") as types:
+            reader = types.reader("A")
+            floats = [0.0, 1.0, 16777217.0, 1e-45, 3.4028235e38, 1 / 3]
+            nearest = [struct.unpack("<f", struct.pack("<f", x))[0] for x in floats]
+            value = reader.read(reader.write({"f": floats, "g": floats}))
+            self.assertEqual([struct.pack("<f", x) for x in value["f"]], [struct.pack("<f", x) for x in nearest])
+            self.assertEqual(value["g"], floats)
 
     def test_large_samples(self):
         with Types("@final struct A { sequence<octet> o; };") as types:

@@ -3,14 +3,15 @@
 //!     rustc --edition 2021 bindings/rust/pose.rs -L out -l static=xt -o pose
 mod ruhvelma;
 
-use ruhvelma::{policy::STANDARD, Bundle, Reader, Refused, Rep, Types, Verdict};
+use ruhvelma::{policy::STANDARD, Bundle, Floats, Reader, Refused, Rep, Types, Verdict};
 use std::thread;
 
-/// Three versions of a type. The second appends a member; the third has wider numbers.
-const VERSIONS: [&str; 3] = [
+/// Three versions of a type. The second appends a member; the third has wider numbers. And a type with floats.
+const VERSIONS: [&str; 4] = [
     "module geo { @appendable struct Pose { @key string<32> vehicle; long east; long north; }; };",
     "module geo { @appendable struct Pose { @key string<32> vehicle; long east; long north; @optional long heading; }; };",
     "module geo { @appendable struct Pose { @key string<32> vehicle; long long east; long long north; }; };",
+    "module geo { @final struct Fix { double height; float speed; }; };",
 ];
 
 const OLDER: &str = r#"{"vehicle":"rover-7","east":12500,"north":-300}"#;
@@ -55,6 +56,15 @@ fn show_types(types: &Types) -> Result<(), Refused> {
     Ok(())
 }
 
+fn show_floats(fixes: &Reader) -> Result<(), Refused> {
+    let sample = fixes.write(r#"{"height":12.5,"speed":0.1}"#, Rep::Xcdr2)?;
+    show_octets("floats", &sample);
+    println!("as bits: {}", fixes.read_as(Floats::Bits, &sample)?);
+    println!("as numbers: {}", fixes.read(&sample)?);
+    show_refusal("too large for a float", fixes.write(r#"{"height":1e39,"speed":1e39}"#, Rep::Xcdr2));
+    Ok(())
+}
+
 /// A sample that a reader on another thread writes.
 fn written_elsewhere(reader: Reader, json: &'static str) -> Result<Vec<u8>, Refused> {
     thread::spawn(move || reader.write(json, Rep::Xcdr2)).join().expect("the thread ends by itself")
@@ -82,6 +92,7 @@ fn main() -> Result<(), Refused> {
     show_types(&types)?;
     let mut first = open_reader(&types, "0/geo::Pose", "1/geo::Pose")?;
     let second = open_reader(&types, "1/geo::Pose", "0/geo::Pose")?;
+    show_floats(&open_reader(&types, "geo::Fix", "geo::Fix")?)?;
     drop(types);
     show_older(&first, &second)?;
     show_newer(&first, second)?;

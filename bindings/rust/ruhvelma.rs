@@ -51,6 +51,16 @@ pub enum Rep {
     Xcdr2 = 2,
 }
 
+/// How floats stand in JSON.
+#[derive(Clone, Copy, Debug, PartialEq, Eq)]
+#[repr(u32)]
+pub enum Floats {
+    /// As texts of their bits.
+    Bits = 0,
+    /// As numbers, where they are finite.
+    Numbers = 1,
+}
+
 /// What a verdict is given under: a sum of the numbers of this module, 0 for the standard's own (7.6.3.7).
 pub mod policy {
     pub const STANDARD: u32 = 0;
@@ -279,14 +289,26 @@ impl Reader {
         Ok(reader)
     }
 
-    /// A sample as JSON.
+    /// A sample as JSON, with finite floats as numbers.
     pub fn read(&self, sample: &[u8]) -> Result<String, Refused> {
-        answered_text(|text, room, needed| unsafe { xt_read(self.0.get(), sample.as_ptr(), sample.len(), 0, text, room, needed) })
+        self.read_as(Floats::Numbers, sample)
     }
 
-    /// A value in JSON as a sample in little-endian order.
+    /// The same, with floats as they are asked.
+    pub fn read_as(&self, floats: Floats, sample: &[u8]) -> Result<String, Refused> {
+        answered_text(|text, room, needed| unsafe { xt_read(self.0.get(), sample.as_ptr(), sample.len(), floats as u32, text, room, needed) })
+    }
+
+    /// A value in JSON, where floats are numbers or texts of their bits, as a sample in little-endian order.
     pub fn write(&self, json: &str, to: Rep) -> Result<Vec<u8>, Refused> {
-        answered(|out, room, needed| unsafe { xt_write(self.0.get(), json.as_ptr(), json.len(), to as u32, 0, out, room, needed) })
+        self.write_as(Floats::Numbers, json, to)
+    }
+
+    /// The same, with floats as they are told.
+    pub fn write_as(&self, floats: Floats, json: &str, to: Rep) -> Result<Vec<u8>, Refused> {
+        answered(|out, room, needed| unsafe {
+            xt_write(self.0.get(), json.as_ptr(), json.len(), to as u32, floats as u32, out, room, needed)
+        })
     }
 
     /// A sample as one of the reader's type in a representation, in little-endian order.

@@ -11,3 +11,4 @@ mod Yields
 mod TypedLeaves
 mod Typed
 mod Reaching
+pub mod OfNumbers

@@ -1,9 +1,11 @@
 //! Values of DDS-XTypes as JSON, and JSON as values, by a valid type (this profile's own).
 #![tactic(auto)]
 
-mod json;
+mod numbers;
 mod reach;
+mod texts;
 
-pub use json::{from_json, to_json};
 pub use json_values::{JsonRule, ValueFault};
+pub use numbers::{bits_are_read, from_numbers, numbers_come_back, with_numbers};
 pub use reach::get;
+pub use texts::{from_json, to_json};

@@ -1,12 +1,12 @@
 //! The calls for other languages, over octets in memory.
 use std::alloc::Global;
 use std::rt::HostRuntime;
-use xt_calls::{Answer, Reader, Types, rep_of, tell};
+use xt_calls::{Answer, Floats, Reader, Types, floats_of, rep_of, tell};
 use xt_shapes::Rep;
 
 // An IDL record: its kind, the length of its text, and the text.
 const FRONT: &[u8] =
-    b"\x03\0\0\0\x95module m { @final struct A {@key long x;}; @final struct B {string s;}; @final struct C {@key string<8> s;}; @final struct D {@key string<32> s;}; };";
+    b"\x03\0\0\0\xbemodule m { @final struct A {@key long x;}; @final struct B {string s;}; @final struct C {@key string<8> s;}; @final struct D {@key string<32> s;}; @final struct E {float f[2]; double g;}; };";
 
 // A sample of m::A with 5 as its x, in XCDR2 and little-endian order.
 const FIVE: &[u8] = b"\0\x07\0\0\x05\0\0\0";
@@ -30,11 +30,11 @@ fn a_sample_is_read_converted_and_written(rt: HostRuntime) {
     let Some((_, reader)) = opened(alloc) else {
         panic!(rt; "nothing was opened");
     };
-    let read = reader.read(alloc, FIVE);
+    let read = reader.read(alloc, Floats::Bits, FIVE);
     assert!(rt; read.is_ok_and(|answer| says(&answer, 0, b"{\"x\":5}")));
     let converted = reader.convert(alloc, Rep::Xcdr1, FIVE);
     assert!(rt; converted.is_ok_and(|answer| says(&answer, 0, b"\0\x01\0\0\x05\0\0\0")));
-    let written = reader.write(alloc, Rep::Xcdr2, b"{\"x\":5}");
+    let written = reader.write(alloc, Rep::Xcdr2, Floats::Bits, b"{\"x\":5}");
     assert!(rt; written.is_ok_and(|answer| says(&answer, 0, FIVE)));
 }
 
@@ -44,10 +44,59 @@ fn what_is_no_sample_is_refused(rt: HostRuntime) {
     let Some((_, reader)) = opened(alloc) else {
         panic!(rt; "nothing was opened");
     };
-    let read = reader.read(alloc, b"\0\x07\0\0\x05\0\0");
+    let read = reader.read(alloc, Floats::Bits, b"\0\x07\0\0\x05\0\0");
     assert!(rt; read.is_ok_and(|answer| answer.status == 18));
-    let written = reader.write(alloc, Rep::Xcdr2, b"{\"x\":");
+    let written = reader.write(alloc, Rep::Xcdr2, Floats::Bits, b"{\"x\":");
     assert!(rt; written.is_ok_and(|answer| says(&answer, 10, b"syntax")));
+}
+
+// Two float32s and a float64 in an array: 0.1 and NaN, and 1e300, in XCDR2 and little-endian order.
+const FLOATS: &[u8] = b"\0\x07\0\0\xcd\xcc\xcc\x3d\0\0\xc0\x7f\x9c\x75\0\x88\x3c\xe4\x37\x7e";
+
+fn of_floats(alloc: Global) -> Option<Reader> {
+    let types = Types::open(alloc, FRONT).ok()?;
+    Reader::open(alloc, &types, b"m::E", b"m::E", 2, 0).ok()
+}
+
+#[test]
+fn finite_floats_are_numbers_where_they_are_asked(rt: HostRuntime) {
+    let alloc = rt.alloc();
+    let Some(reader) = of_floats(alloc) else {
+        panic!(rt; "nothing was opened");
+    };
+    let bits = b"{\"f\":[\"3dcccccd\",\"7fc00000\"],\"g\":\"7e37e43c8800759c\"}";
+    let read = reader.read(alloc, Floats::Bits, FLOATS);
+    assert!(rt; read.is_ok_and(|answer| says(&answer, 0, bits)));
+    let numbers = b"{\"f\":[0.1,\"7fc00000\"],\"g\":1e300}";
+    let read = reader.read(alloc, Floats::Numbers, FLOATS);
+    assert!(rt; read.is_ok_and(|answer| says(&answer, 0, numbers)));
+    for text in [bits.as_slice(), numbers.as_slice()] {
+        let written = reader.write(alloc, Rep::Xcdr2, Floats::Numbers, text);
+        assert!(rt; written.is_ok_and(|answer| says(&answer, 0, FLOATS)));
+    }
+}
+
+#[test]
+fn what_is_no_float_is_refused(rt: HostRuntime) {
+    let alloc = rt.alloc();
+    let Some(reader) = of_floats(alloc) else {
+        panic!(rt; "nothing was opened");
+    };
+    for (text, why) in [
+        (
+            b"{\"f\":[0,1e39],\"g\":0}".as_slice(),
+            b"RANGE /0/[]".as_slice(),
+        ),
+        (b"{\"f\":[0,0],\"g\":-1e999}", b"RANGE /1"),
+        (b"{\"f\":[\"\",1e39],\"g\":0}", b"TEXT /0/[]"),
+        (b"{\"f\":[true,1e39],\"g\":0}", b"KIND /0/[]"),
+    ] {
+        let written = reader.write(alloc, Rep::Xcdr2, Floats::Numbers, text);
+        assert!(rt; written.is_ok_and(|answer| says(&answer, 10, why)));
+    }
+    let written = reader.write(alloc, Rep::Xcdr2, Floats::Bits, b"{\"f\":[0,0],\"g\":0}");
+    assert!(rt; written.is_ok_and(|answer| says(&answer, 10, b"KIND /0/[]")));
+    assert!(rt; floats_of(2).is_none());
 }
 
 // The hash of the key of TEXT for the reader's type that a word names.
@@ -97,12 +146,12 @@ fn an_answer_is_told_into_its_room(rt: HostRuntime) {
     };
     let mut room = [9; 8];
     let mut needed = 0;
-    let Ok(answer) = reader.read(alloc, FIVE) else {
+    let Ok(answer) = reader.read(alloc, Floats::Bits, FIVE) else {
         panic!(rt; "memory was wanting");
     };
     assert!(rt; tell(answer, &mut room, &mut needed) == 0);
     assert!(rt; needed == 7 && room == *b"{\"x\":5}\x09");
-    let Ok(answer) = reader.read(alloc, FIVE) else {
+    let Ok(answer) = reader.read(alloc, Floats::Bits, FIVE) else {
         panic!(rt; "memory was wanting");
     };
     assert!(rt; tell(answer, &mut room[..6], &mut needed) == 14);

@@ -8,9 +8,10 @@ use Rattle.xt_calls.specs.declared.answers.Answer.{Answer}
 use Rattle.xt_calls.specs.declared.types.Types.{Types}
 use Rattle.xt_calls.specs.declared.readers.Reader.{Reader}
 use Rattle.xt_calls.specs.Calls as calls
-use Rattle.xt_calls.specs.Laws.{CommandsAgree, Headline}
+use Rattle.xt_calls.specs.declared.words.Floats.{Floats}
+use Rattle.xt_calls.specs.Laws.{NumbersComeBack, CommandsAgree, Headline}
 use Rattle.xt_calls.specs.Opened.{front}
-use Rattle.xt_c.specs.Exports.{SaysIn, SaysAs, WritesIn, WritesAs, Opens, OpensReader, AgreesWithCommands, ReadsProjections}
+use Rattle.xt_c.specs.Exports.{SaysIn, SaysAs, WritesIn, WritesAs, SaysShown, ShowsLine, ReadsShown, Opens, OpensReader, AgreesWithCommands, ReadsProjections}
 
 writes_as : {A K X : Type 0} (asked : Option A) (view : Answer → X) (answer : A → K → Answer) (x : A → K → X) (kept : K) (old new : List ℕ) (needed status : ℕ) → ((a : A) (k : K) → view (answer a k) ≡ x a k) → SaysAs asked answer kept old new needed status → WritesAs asked view x kept old new needed status
 writes_as None view answer x kept old new needed status law says = says
@@ -20,6 +21,19 @@ writes_as (Some a) view answer x kept old new needed status law (inr none) = inr
 pub writes : {A K X : Type 0} (asked : Option A) (view : Answer → X) (answer : A → K → Answer) (x : A → K → X) (held : Option K) (old new : List ℕ) (needed status : ℕ) → ((a : A) (k : K) → view (answer a k) ≡ x a k) → SaysIn asked answer held old new needed status → WritesIn asked view x held old new needed status
 writes asked view answer x None old new needed status law says = says
 writes asked view answer x (Some kept) old new needed status law says = writes_as asked view answer x kept old new needed status law says
+
+-- ---- lines with floats as numbers
+
+pub shows_line : {X : Type 0} (floats : Option Floats) (view : Answer → X) (answer : Reader → Answer) (x : Reader → X) (held : Option Reader) (old new : List ℕ) (needed status : ℕ) → ((r : Reader) → view (answer r) ≡ x r) → SaysShown floats answer held old new needed status → ShowsLine floats view x held old new needed status
+shows_line floats view answer x None old new needed status law says = says
+shows_line None view answer x (Some kept) old new needed status law says = says
+shows_line (Some floats) view answer x (Some kept) old new needed status law (inl told) = inl (answer kept, law kept, told)
+shows_line (Some floats) view answer x (Some kept) old new needed status law (inr none) = inr none
+
+-- a reader's type is valid
+pub reads_shown : NumbersComeBack → (held : Option Reader) → ReadsShown held
+reads_shown law None = tt
+reads_shown law (Some kept) = law (tree kept.ty) kept.valid
 
 pub agrees : CommandsAgree → (held : Option Types) → AgreesWithCommands held
 agrees law None = tt

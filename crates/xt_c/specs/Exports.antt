@@ -12,10 +12,11 @@ use Rattle.tool_runs.specs.declared.output.stop.Stop.{Stop}
 use Rattle.tool_runs.specs.declared.output.stop.Stop.TheVariants as stops
 use Rattle.xt_calls.specs.Calls as calls
 use Rattle.xt_calls.specs.Answering.{Tells, TellsNone}
-use Rattle.xt_calls.specs.Laws.{Agrees, Projected}
+use Rattle.xt_calls.specs.Laws.{Agrees, Projected, ShownIsRead}
 use Rattle.xt_calls.specs.Opened.{front}
 use Rattle.xt_calls.specs.declared.answers.Answer.{Answer}
 use Rattle.xt_calls.specs.declared.types.Types.{Types}
+use Rattle.xt_calls.specs.declared.words.Floats.{Floats}
 use Rattle.xt_calls.specs.declared.readers.Reader.{Reader}
 
 -- ---- a call that answers: 13 where the handle is null, 6 for want of memory
@@ -91,6 +92,31 @@ WritesIn asked view x (Some kept) old new needed status = WritesAs asked view x 
 abbrev pub AgreesWithCommands : Option Types → Type 0
 AgreesWithCommands None = Unit {0}
 AgreesWithCommands (Some types) = (records : List Item) → declare 0 [] records ≡ Ok (front types) → Agrees records (front types)
+
+-- ---- JSON with floats as they are asked
+
+-- An answer was told that is this one with floats as numbers, or itself.
+abbrev pub TellsShown : Floats → Tree → Answer → (old new : List ℕ) → (needed status : ℕ) → Type 0
+TellsShown floats t plain old new needed status = (shown : Answer) × calls.Shows floats t plain shown × Tells shown old new needed status
+
+abbrev pub SaysShown : Option Floats → (Reader → Answer) → Option Reader → (old new : List ℕ) → (needed status : ℕ) → Type 0
+SaysShown floats answer None old new needed status = TellsNone 13 old new needed status
+SaysShown None answer (Some kept) old new needed status = TellsNone 2 old new needed status
+SaysShown (Some floats) answer (Some kept) old new needed status = TellsShown floats (tree kept.ty) (answer kept) old new needed status ⊎ TellsNone 6 old new needed status
+
+-- The same of an answer that is a line of a command.
+abbrev pub TellsLine : {X : Type 0} → (Answer → X) → X → Floats → Tree → (old new : List ℕ) → (needed status : ℕ) → Type 0
+TellsLine view x floats t old new needed status = (plain : Answer) × (view plain ≡ x) × TellsShown floats t plain old new needed status
+
+abbrev pub ShowsLine : {X : Type 0} → Option Floats → (Answer → X) → (Reader → X) → Option Reader → (old new : List ℕ) → (needed status : ℕ) → Type 0
+ShowsLine floats view x None old new needed status = TellsNone 13 old new needed status
+ShowsLine None view x (Some kept) old new needed status = TellsNone 2 old new needed status
+ShowsLine (Some floats) view x (Some kept) old new needed status = TellsLine view (x kept) floats (tree kept.ty) old new needed status ⊎ TellsNone 6 old new needed status
+
+-- What is shown of a text means the same.
+abbrev pub ReadsShown : Option Reader → Type 0
+ReadsShown None = Unit {0}
+ReadsShown (Some kept) = ShownIsRead (tree kept.ty)
 
 -- ---- the headline
 

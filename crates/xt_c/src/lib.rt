@@ -6,7 +6,6 @@ ghost use Rattle.std.specs.Prelude.{◌≡◌, ℕ};
 ghost use Rattle.type_trees.specs.View.{tree};
 ghost use Rattle.type_trees.specs.Bridge.{type_shape};
 ghost use Rattle.xcdr_model.specs.Samples.{read_sample};
-ghost use Rattle.json_values.specs.Read.{read_as};
 ghost use Rattle.tool_samples.specs.lines.Lines.{converted, sample_line, written};
 ghost use Rattle.xt_calls.specs.Calls as calls;
 ghost use Rattle.xt_calls.specs.Laws.{line_of, record_of, turn_of};
@@ -26,7 +25,7 @@ use samples::{convert_in, read_in, write_in};
 use std::alloc::Global;
 use xt_calls::{
     CLOSED, MEMORY, Types, commands_agree, conversions_are_records, headline, lines_are_read,
-    nothing, tell, writes_are_records,
+    nothing, numbers_come_back, tell, writes_are_records,
 };
 
 /// Opens the types of a bundle, of which nothing but Notes comes behind the front. What the handle held is freed.
@@ -89,7 +88,7 @@ pub extern "C" fn xt_reader_close(alloc: Global, reader: &mut ReaderHandle)
     reader.close(alloc)
 }
 
-/// What the reader's type makes of a sample, as JSON. No flag has a meaning yet.
+/// What the reader's type makes of a sample, as JSON. Flags are 0, or 1 where finite floats are to stand as numbers.
 #[unsafe(no_mangle)]
 pub extern "C" fn xt_read(
     alloc: Global,
@@ -99,11 +98,13 @@ pub extern "C" fn xt_read(
     text: &mut [u8],
     needed: &mut usize,
 ) -> u32
-    ensures says { spec.SaysIn (calls.plain_of flags) (λ u r. calls.read_answer (tree r.ty) (read_sample r.rep (type_shape r.ty) sample.now)) reader.old.held text.old text.new needed.new result }
-    ensures as_line { spec.WritesIn (calls.plain_of flags) line_of (λ u r. sample_line r.rep (tree r.ty) sample.now) reader.old.held text.old text.new needed.new result }
+    ensures says { spec.SaysShown (calls.floats_of flags) (λ r. calls.read_answer (tree r.ty) (read_sample r.rep (type_shape r.ty) sample.now)) reader.old.held text.old text.new needed.new result }
+    ensures as_line { spec.ShowsLine (calls.floats_of flags) line_of (λ r. sample_line r.rep (tree r.ty) sample.now) reader.old.held text.old text.new needed.new result }
+    ensures comes_back { spec.ReadsShown reader.old.held }
     ensures kept { reader.new.held ≡ reader.old.held }
 {
     lines_are_read();
+    numbers_come_back();
     read_in(alloc, reader, sample, flags, text, needed)
 }
 
@@ -125,7 +126,8 @@ pub extern "C" fn xt_convert(
     convert_in(alloc, reader, sample, to, out, needed)
 }
 
-/// A value of the reader's type in JSON, as a sample in a representation, in little-endian order. No flag has a meaning yet.
+/// A value of the reader's type in JSON, as a sample in a representation, in little-endian order. Flags are 0, or 1 where floats may stand
+/// as numbers.
 #[unsafe(no_mangle)]
 pub extern "C" fn xt_write(
     alloc: Global,
@@ -136,8 +138,8 @@ pub extern "C" fn xt_write(
     out: &mut [u8],
     needed: &mut usize,
 ) -> u32
-    ensures says { spec.SaysIn (calls.written_in to flags) (λ rep r. calls.written_answer rep (tree r.ty) (read_as (tree r.ty) json.now)) reader.old.held out.old out.new needed.new result }
-    ensures as_record { (k : ℕ) → spec.WritesIn (calls.written_in to flags) (turn_of k) (λ rep r. written rep (tree r.ty) k (read_as (tree r.ty) json.now)) reader.old.held out.old out.new needed.new result }
+    ensures says { spec.SaysIn (calls.written_in to flags) (λ form r. calls.written_answer form.0 (tree r.ty) (calls.meaning form.1 (tree r.ty) json.now)) reader.old.held out.old out.new needed.new result }
+    ensures as_record { (k : ℕ) → spec.WritesIn (calls.written_in to flags) (turn_of k) (λ form r. written form.0 (tree r.ty) k (calls.meaning form.1 (tree r.ty) json.now)) reader.old.held out.old out.new needed.new result }
     ensures kept { reader.new.held ≡ reader.old.held }
 {
     writes_are_records();

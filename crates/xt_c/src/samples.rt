@@ -2,15 +2,14 @@ ghost use Rattle.std.specs.Prelude.{◌≡◌};
 ghost use Rattle.type_trees.specs.View.{tree};
 ghost use Rattle.type_trees.specs.Bridge.{type_shape};
 ghost use Rattle.xcdr_model.specs.Samples.{read_sample};
-ghost use Rattle.json_values.specs.Read.{read_as};
 ghost use Rattle.xt_calls.specs.Calls as calls;
 ghost use Rattle.xt_c.specs.Exports as spec;
 
 use crate::held_reader::ReaderHandle;
 use std::alloc::Global;
-use xt_calls::{CLOSED, MEMORY, WORDS, nothing, rep_of, tell, written_in};
+use xt_calls::{CLOSED, MEMORY, WORDS, floats_of, nothing, rep_of, tell, written_in};
 
-// What the reader's type makes of a sample, as JSON.
+// What the reader's type makes of a sample, as JSON with floats as flags ask.
 pub(crate) fn read_in(
     alloc: Global,
     reader: &mut ReaderHandle,
@@ -19,19 +18,18 @@ pub(crate) fn read_in(
     text: &mut [u8],
     needed: &mut usize,
 ) -> u32
-    ensures says { spec.SaysIn (calls.plain_of flags) (λ u r. calls.read_answer (tree r.ty) (read_sample r.rep (type_shape r.ty) sample.now)) reader.old.held text.old text.new needed.new result }
+    ensures says { spec.SaysShown (calls.floats_of flags) (λ r. calls.read_answer (tree r.ty) (read_sample r.rep (type_shape r.ty) sample.now)) reader.old.held text.old text.new needed.new result }
     ensures kept { reader.new.held ≡ reader.old.held }
 {
     match reader.take(alloc) {
         None => nothing(CLOSED, needed),
         Some(kept) => {
-            let status = if flags == 0 {
-                match kept.read(alloc, sample) {
+            let status = match floats_of(flags) {
+                None => nothing(WORDS, needed),
+                Some(floats) => match kept.read(alloc, floats, sample) {
                     Ok(answer) => tell(answer, text, needed),
                     Err(_) => nothing(MEMORY, needed),
-                }
-            } else {
-                nothing(WORDS, needed)
+                },
             };
             reader.put(alloc, kept);
             status
@@ -67,7 +65,7 @@ pub(crate) fn convert_in(
     }
 }
 
-// A value of the reader's type in JSON, as a sample in a representation, in little-endian order.
+// A value of the reader's type in JSON, with floats as flags ask, as a sample in a representation, in little-endian order.
 pub(crate) fn write_in(
     alloc: Global,
     reader: &mut ReaderHandle,
@@ -77,7 +75,7 @@ pub(crate) fn write_in(
     out: &mut [u8],
     needed: &mut usize,
 ) -> u32
-    ensures says { spec.SaysIn (calls.written_in to flags) (λ rep r. calls.written_answer rep (tree r.ty) (read_as (tree r.ty) json.now)) reader.old.held out.old out.new needed.new result }
+    ensures says { spec.SaysIn (calls.written_in to flags) (λ form r. calls.written_answer form.0 (tree r.ty) (calls.meaning form.1 (tree r.ty) json.now)) reader.old.held out.old out.new needed.new result }
     ensures kept { reader.new.held ≡ reader.old.held }
 {
     match reader.take(alloc) {
@@ -85,7 +83,7 @@ pub(crate) fn write_in(
         Some(kept) => {
             let status = match written_in(to, flags) {
                 None => nothing(WORDS, needed),
-                Some(to) => match kept.write(alloc, to, json) {
+                Some((to, floats)) => match kept.write(alloc, to, floats, json) {
                     Ok(answer) => tell(answer, out, needed),
                     Err(_) => nothing(MEMORY, needed),
                 },

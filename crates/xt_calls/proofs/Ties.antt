@@ -21,8 +21,11 @@ use Rattle.tool_types.specs.Types.{Declared, declare}
 use Rattle.tool_types.specs.names.Identified.{id_named}
 use Rattle.tool_samples.specs.lines.Lines.{outcome_line, written, unless_failed, most_octets}
 use Rattle.tool_verdicts.specs.Verdicts.{NamedAreValid, assignable}
+use Rattle.dynamic_data.specs.numbers.Laws as Numbers
+use Rattle.xt_calls.specs.declared.answers.Answer.{Answer}
+use Rattle.xt_calls.specs.declared.words.Floats.{Floats}
 use Rattle.xt_calls.specs.Calls.{read_answer, written_answer, records_of}
-use Rattle.xt_calls.specs.Laws.{line_of, record_of, turn_of, LinesAreRead, ConversionsAreRecords, WritesAreRecords, CommandsAgree, Headline}
+use Rattle.xt_calls.specs.Laws.{line_of, record_of, turn_of, LinesAreRead, ConversionsAreRecords, WritesAreRecords, NumbersComeBack, CommandsAgree, Headline}
 
 -- ---- lines and records
 
@@ -46,14 +49,17 @@ conversions_are_records to t (Ok discarded) = refl
 conversions_are_records to t (Ok must_understand) = refl
 conversions_are_records to t (Err fault) = refl
 
-written_is : (rep : Rep) (t : Tree) (k : ℕ) (read : Result Val ValueFault) → turn_of k (written_answer rep t read) ≡ written rep t k read
-written_is rep t k (Ok v) = either (turn_of k) (nat_lt most_octets (sample_size rep (shape t) v)) _ _
-written_is rep t k (Err NotJson) = refl
-written_is rep t k (Err (Wrong path rule)) = refl
-written_is rep t k (Err OutOfMemory) = refl
-
 pub writes_are_records : WritesAreRecords
-writes_are_records rep t k text = written_is rep t k (read_as t text)
+writes_are_records rep t k (Ok v) = either (turn_of k) (nat_lt most_octets (sample_size rep (shape t) v)) _ _
+writes_are_records rep t k (Err NotJson) = refl
+writes_are_records rep t k (Err (Wrong path rule)) = refl
+writes_are_records rep t k (Err OutOfMemory) = refl
+
+-- ---- floats as numbers
+
+pub numbers_come_back : Numbers.NumbersComeBack → NumbersComeBack
+numbers_come_back law t valid Floats.Bits text v shown is shows = ap (λ (a : Answer). read_as t a.text) shows ∙ is
+numbers_come_back law t valid Floats.Numbers text v shown is shows = law t text shown.text v valid is shows.1
 
 -- ---- verdicts and names
 

@@ -1,5 +1,6 @@
 -- What the calls of a library for other languages answer (this profile's own). Each is by the definitions that the commands have.
-use Rattle.std.specs.Prelude.{ℕ, Bool, false, List, [], ◌∷◌, ◌++◌, length, Option, Some, None, Result, Ok, Err, nat_lt, if◌then◌else◌, not, ◌==◌, ◌%◌, ◌/◌, codes}
+use Rattle.std.specs.Prelude.{◌≡◌, ℕ, Bool, false, List, [], ◌∷◌, ◌++◌, length, Option, Some, None, Result, Ok, Err, nat_lt, if◌then◌else◌, not, ◌==◌, ◌%◌, ◌/◌, codes}
+use Rattle.std.specs.Bool.{MatchBool}
 use Rattle.std.specs.Option.{option_map, option_and_then}
 use Rattle.xt_io.specs.Bundles.{bundle}
 use Rattle.xt_io.specs.declared.Item.{Item}
@@ -20,6 +21,8 @@ use Rattle.json_values.specs.declared.faults.ValueFault.{ValueFault}
 use Rattle.json_values.specs.declared.faults.ValueFault.TheVariants.{NotJson, Wrong, OutOfMemory}
 use Rattle.json_values.specs.Written.{json_text}
 use Rattle.json_values.specs.Words as json_words
+use Rattle.json_values.specs.Read.{read_as}
+use Rattle.dynamic_data.specs.numbers.Texts.{ShowsNumbers, read_numbers}
 use Rattle.tool_runs.specs.declared.output.ending.Cause.{Cause}
 use Rattle.tool_runs.specs.declared.output.ending.Cause.TheVariants as causes
 use Rattle.tool_runs.specs.output.Outputs.{Refusal, ◌>>=◌}
@@ -35,6 +38,7 @@ use Rattle.tool_types.specs.names.Names.{name_refusal, top_named}
 use Rattle.tool_samples.specs.lines.Lines.{malformed_text, most_octets}
 use Rattle.tool_verdicts.specs.Verdicts.{assignable}
 use Rattle.xt_calls.specs.declared.answers.Answer.{Answer}
+use Rattle.xt_calls.specs.declared.words.Floats.{Floats}
 
 -- ---- statuses: those of the commands, and four for samples
 
@@ -72,12 +76,12 @@ types_of octets = records_of octets >>= declare 0 []
 abbrev pub rep_of : ℕ → Option Rep
 rep_of code = if code == 1 then Some Xcdr1 else if code == 2 then Some Xcdr2 else None
 
--- No flag of the JSON has a meaning yet.
-abbrev pub plain_of : ℕ → Option (Unit {0})
-plain_of flags = if flags == 0 then Some tt else None
+-- 1: finite floats are numbers in the JSON
+abbrev pub floats_of : ℕ → Option Floats
+floats_of flags = if flags == 0 then Some Floats.Bits else if flags == 1 then Some Floats.Numbers else None
 
-abbrev pub written_in : ℕ → ℕ → Option Rep
-written_in code flags = if flags == 0 then rep_of code else None
+abbrev pub written_in : ℕ → ℕ → Option (Rep × Floats)
+written_in code flags = option_and_then (λ rep. option_map (λ floats. (rep, floats)) (floats_of flags)) (rep_of code)
 
 -- whether the bit that stands for so much is set
 abbrev pub is_set : ℕ → ℕ → Bool
@@ -166,6 +170,16 @@ read_answer t (Ok (sample v)) = said 0 (json_text t v)
 read_answer t (Ok discarded) = said 16 (codes "discarded")
 read_answer t (Ok must_understand) = said 17 (codes "must-understand")
 read_answer t (Err fault) = said 18 (malformed_text fault)
+
+-- an answer in JSON, with floats as they were asked
+abbrev pub Shows : Floats → Tree → (plain shown : Answer) → Type 0
+Shows Floats.Bits t plain shown = shown ≡ plain
+Shows Floats.Numbers t plain shown = (shown.status ≡ plain.status) × MatchBool (plain.status == 0) (ShowsNumbers t plain.text shown.text) (shown.text ≡ plain.text)
+
+-- what a text in JSON means for a type
+abbrev pub meaning : Floats → Tree → List ℕ → Result Val ValueFault
+meaning Floats.Bits t text = read_as t text
+meaning Floats.Numbers t text = read_numbers t text
 
 -- the sample of a value, unless it is too large
 abbrev pub sample_answer : ℕ → List ℕ → Rep → Tree → Val → Answer

@@ -65,12 +65,10 @@ fn minimal_named(
     requires back { AllComeBack pool.now (map declared_view records.now) }
     ensures { Comes (spec.minimal_named (reference_view reference.now) (map declared_view records.now, pool.now)) (λ id. id) result }
 {
-    match top_named(alloc, reference, records, pool) {
-        Err(stop) => Err(stop),
-        Ok(found) => match minimal_of(alloc, found.ty) {
-            Ok(id) => Ok(id),
-            Err(_) => Err(Stop::Halted(Halt::OutOfMemory)),
-        },
+    let found = top_named(alloc, reference, records, pool)?;
+    match minimal_of(alloc, found.ty) {
+        Ok(id) => Ok(id),
+        Err(_) => Err(Stop::Halted(Halt::OutOfMemory)),
     }
 }
 
@@ -79,29 +77,21 @@ impl Types {
     pub fn id_of(&self, alloc: Global, word: &[u8]) -> Result<Answer, Stop>
         ensures { Comes (spec.identified word.now (front self.now)) (λ answer. answer) result }
     {
-        match named_by(word) {
-            None => Err(refuse_words(alloc)),
-            Some(reference) => {
-                match id_named(alloc, &reference, self.declared.as_slice(), &self.pool) {
-                    Err(stop) => Err(stop),
-                    Ok(id) => id_answer(alloc, &id),
-                }
-            }
-        }
+        let Some(reference) = named_by(word) else {
+            return Err(refuse_words(alloc));
+        };
+        let id = id_named(alloc, &reference, self.declared.as_slice(), &self.pool)?;
+        id_answer(alloc, &id)
     }
 
     /// The minimal identifier of the structure or union that a word names.
     pub fn minimal_id_of(&self, alloc: Global, word: &[u8]) -> Result<Answer, Stop>
         ensures { Comes (spec.minimally_identified word.now (front self.now)) (λ answer. answer) result }
     {
-        match named_by(word) {
-            None => Err(refuse_words(alloc)),
-            Some(reference) => {
-                match minimal_named(alloc, &reference, self.declared.as_slice(), &self.pool) {
-                    Err(stop) => Err(stop),
-                    Ok(id) => id_answer(alloc, &id),
-                }
-            }
-        }
+        let Some(reference) = named_by(word) else {
+            return Err(refuse_words(alloc));
+        };
+        let id = minimal_named(alloc, &reference, self.declared.as_slice(), &self.pool)?;
+        id_answer(alloc, &id)
     }
 }

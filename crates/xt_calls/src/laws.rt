@@ -13,7 +13,14 @@ pub fn conversions_are_records()
     ensures { law.ConversionsAreRecords }
 {}
 
-/// What a text is written as is the record that `write` writes of it, or its refusal.
+/// What is read of a value with floats as numbers, or as raw bits, is written as that value again.
+pub fn numbers_come_back()
+    ensures { law.NumbersComeBack }
+{
+    dynamic_data::numbers_come_back();
+}
+
+/// What a text is written as is the record that `write` writes of its meaning, or its refusal.
 pub fn writes_are_records()
     ensures { law.WritesAreRecords }
 {}

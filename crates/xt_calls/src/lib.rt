@@ -16,8 +16,9 @@ mod words;
 
 pub use answers::{Answer, CLOSED, DONE, MEMORY, WORDS, answer_of, nothing, tell};
 pub use laws::{
-    commands_agree, conversions_are_records, headline, lines_are_read, writes_are_records,
+    commands_agree, conversions_are_records, headline, lines_are_read, numbers_come_back,
+    writes_are_records,
 };
 pub use readers::Reader;
 pub use types::Types;
-pub use words::{rep_of, written_in};
+pub use words::{Floats, floats_of, rep_of, written_in};

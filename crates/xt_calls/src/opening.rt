@@ -48,12 +48,8 @@ impl Types {
     pub fn open(alloc: Global, octets: &[u8]) -> Result<Types, Stop>
         ensures { Comes (spec.types_of octets.now) front result }
     {
-        match records_of(alloc, octets) {
-            Err(stop) => Err(stop),
-            Ok(records) => match declare(alloc, records.as_slice()) {
-                Err(stop) => Err(stop),
-                Ok((declared, pool)) => Ok(Types { declared, pool }),
-            },
-        }
+        let records = records_of(alloc, octets)?;
+        let (declared, pool) = declare(alloc, records.as_slice())?;
+        Ok(Types { declared, pool })
     }
 }

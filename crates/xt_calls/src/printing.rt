@@ -120,15 +120,11 @@ impl Types {
     pub fn print(&self, alloc: Global, word: &[u8]) -> Result<Answer, Stop>
         ensures { Comes (spec.printed_by word.now (front self.now)) (λ answer. answer) result }
     {
-        match named_by(word) {
-            None => Err(refuse_words(alloc)),
-            Some(reference) => {
-                match top_named(alloc, &reference, self.declared.as_slice(), &self.pool) {
-                    Err(stop) => Err(stop),
-                    Ok(found) => print_named(alloc, word, found.ty),
-                }
-            }
-        }
+        let Some(reference) = named_by(word) else {
+            return Err(refuse_words(alloc));
+        };
+        let found = top_named(alloc, &reference, self.declared.as_slice(), &self.pool)?;
+        print_named(alloc, word, found.ty)
     }
 
     /// The IDL text of all types that texts declare.

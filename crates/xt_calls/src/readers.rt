@@ -4,7 +4,7 @@ ghost use Rattle.type_trees.specs.Bridge.{type_shape};
 ghost use Rattle.projection_laws.specs.Premises.{IsValid};
 ghost use Rattle.settled_parts.specs.Settling.{outcome_val};
 ghost use Rattle.xcdr_model.specs.Samples.{read_sample};
-ghost use Rattle.json_values.specs.Read.{read_as};
+ghost use Rattle.json_values.specs.Steps.{FailsAs};
 ghost use Rattle.json_values.specs.declared.faults.ValueFault.TheVariants.{OutOfMemory as NoMemory};
 ghost use Rattle.tool_samples.specs.lines.Lines as lines;
 ghost use Rattle.tool_runs.specs.output.Runs.{Comes};
@@ -17,8 +17,8 @@ use crate::answers::{
 };
 use crate::plain::plain_sample;
 use crate::types::Types;
-use crate::words::pair_of;
-use dynamic_data::{ValueFault, from_json, to_json};
+use crate::words::{Floats, pair_of};
+use dynamic_data::{ValueFault, from_json, from_numbers, to_json, with_numbers};
 use packed_json::{Plan, write_value};
 use packed_reader::read_plain;
 use settled_parts::Outcome;
@@ -104,6 +104,32 @@ fn as_sample(alloc: Global, to: Rep, ty: &XType, outcome: &Outcome) -> Result<An
     }
 }
 
+// An answer in JSON, with floats as they are asked.
+fn shown(alloc: Global, floats: Floats, ty: &XType, plain: Answer) -> Result<Answer, OutOfMemory>
+    requires { IsValid ty.now }
+    ensures { IfOk result (spec.Shows floats (tree ty.now) plain) }
+{
+    match floats {
+        Floats::Numbers if plain.status == DONE => {
+            let text = with_numbers(alloc, ty, plain.text.octets())?;
+            Ok(Answer { status: DONE, text })
+        }
+        Floats::Bits | Floats::Numbers => Ok(plain),
+    }
+}
+
+// The value that a text in JSON means.
+fn meaning(alloc: Global, floats: Floats, ty: &XType, json: &[u8]) -> Result<Value, ValueFault>
+    requires { IsValid ty.now }
+    ensures ok { IfOk result (λ value. spec.meaning floats (tree ty.now) json.now ≡ Ok (val value)) }
+    ensures err { FailsAs (spec.meaning floats (tree ty.now) json.now) result }
+{
+    match floats {
+        Floats::Bits => from_json(alloc, ty, json),
+        Floats::Numbers => from_numbers(alloc, ty, json),
+    }
+}
+
 fn refuse_value(alloc: Global, fault: ValueFault) -> Result<Answer, OutOfMemory>
     ensures answer { IfOk result (λ answer. answer ≡ spec.fault_answer fault) }
     ensures memory { IfOk result (λ _. fault ≡ NoMemory → ⊥) }
@@ -131,22 +157,16 @@ impl Reader {
         ensures comes { Comes (spec.reader_of (spec.pair_of reader.now writer.now rep flags) (front types.now)) (λ opened. tree opened.ty) result }
         ensures rep { IfOk result (λ opened. spec.rep_of rep ≡ Some opened.rep) }
     {
-        match pair_of(reader, writer, rep, flags) {
-            None => Err(refuse_words(alloc)),
-            Some(pair) => {
-                match assignable(alloc, &pair, types.declared.as_slice(), &types.pool) {
-                    Err(stop) => Err(stop),
-                    Ok(ty) => {
-                        let plan = plan_for(alloc, pair.rep, &ty);
-                        Ok(Reader {
-                            rep: pair.rep,
-                            ty,
-                            plan,
-                        })
-                    }
-                }
-            }
-        }
+        let Some(pair) = pair_of(reader, writer, rep, flags) else {
+            return Err(refuse_words(alloc));
+        };
+        let ty = assignable(alloc, &pair, types.declared.as_slice(), &types.pool)?;
+        let plan = plan_for(alloc, pair.rep, &ty);
+        Ok(Reader {
+            rep: pair.rep,
+            ty,
+            plan,
+        })
     }
 
     pub(crate) fn taken(&self, alloc: Global, sample: &[u8]) -> Result<Outcome, DecodeFault>
@@ -169,7 +189,15 @@ impl Reader {
     }
 
     /// What the reader's type makes of a sample, as JSON.
-    pub fn read(&self, alloc: Global, sample: &[u8]) -> Result<Answer, OutOfMemory>
+    pub fn read(&self, alloc: Global, floats: Floats, sample: &[u8]) -> Result<Answer, OutOfMemory>
+        ensures { IfOk result (spec.Shows floats (tree self.now.ty) (spec.read_answer (tree self.now.ty) (read_sample self.now.rep (type_shape self.now.ty) sample.now))) }
+    {
+        let plain = self.read_bits(alloc, sample)?;
+        shown(alloc, floats, &self.ty, plain)
+    }
+
+    // The same, with floats as their raw bits.
+    fn read_bits(&self, alloc: Global, sample: &[u8]) -> Result<Answer, OutOfMemory>
         ensures { IfOk result (λ answer. answer ≡ spec.read_answer (tree self.now.ty) (read_sample self.now.rep (type_shape self.now.ty) sample.now)) }
     {
         match self.read_plain(alloc, sample) {
@@ -222,10 +250,16 @@ impl Reader {
     }
 
     /// A value of the reader's type in JSON, as a sample in a representation.
-    pub fn write(&self, alloc: Global, to: Rep, json: &[u8]) -> Result<Answer, OutOfMemory>
-        ensures { IfOk result (λ answer. answer ≡ spec.written_answer to (tree self.now.ty) (read_as (tree self.now.ty) json.now)) }
+    pub fn write(
+        &self,
+        alloc: Global,
+        to: Rep,
+        floats: Floats,
+        json: &[u8],
+    ) -> Result<Answer, OutOfMemory>
+        ensures { IfOk result (λ answer. answer ≡ spec.written_answer to (tree self.now.ty) (spec.meaning floats (tree self.now.ty) json.now)) }
     {
-        match from_json(alloc, &self.ty, json) {
+        match meaning(alloc, floats, &self.ty, json) {
             Ok(value) => sample_of(alloc, JSON, b"LARGE /", to, &self.ty, &value),
             Err(fault) => refuse_value(alloc, fault),
         }

@@ -21,12 +21,10 @@ impl Types {
     ) -> Result<Answer, Stop>
         ensures { Comes (spec.judged (spec.pair_of reader.now writer.now rep flags) (front self.now)) (λ answer. answer) result }
     {
-        match Reader::open(alloc, self, reader, writer, rep, flags) {
-            Err(stop) => Err(stop),
-            Ok(_) => Ok(Answer {
-                status: DONE,
-                text: Text::new(alloc),
-            }),
-        }
+        Reader::open(alloc, self, reader, writer, rep, flags)?;
+        Ok(Answer {
+            status: DONE,
+            text: Text::new(alloc),
+        })
     }
 }

@@ -20,11 +20,33 @@ pub fn rep_of(code: u32) -> Option<Rep>
     }
 }
 
-/// The representation of this number, where no flag asks for another form of the JSON.
-pub fn written_in(code: u32, flags: u32) -> Option<Rep>
+/// How floats stand in JSON.
+#[derive(Debug, Clone, Copy, PartialEq, Eq)]
+pub enum Floats {
+    /// As their raw bits, in texts of hexadecimal digits.
+    Bits,
+    /// As numbers, where they are finite.
+    Numbers,
+}
+
+/// How floats stand in the JSON that these flags ask for.
+pub fn floats_of(flags: u32) -> Option<Floats>
+    ensures { result ≡ spec.floats_of flags }
+{
+    match flags {
+        0 => Some(Floats::Bits),
+        1 => Some(Floats::Numbers),
+        _ => None,
+    }
+}
+
+/// The representation of this number, and how floats stand in the JSON that flags ask for.
+pub fn written_in(code: u32, flags: u32) -> Option<(Rep, Floats)>
     ensures { result ≡ spec.written_in code flags }
 {
-    if flags == 0 { rep_of(code) } else { None }
+    let rep = rep_of(code)?;
+    let floats = floats_of(flags)?;
+    Some((rep, floats))
 }
 
 // The policy of these flags.

@@ -10,7 +10,7 @@ use Rattle.dynamic_data.proofs.Back.{value_read}
 use Rattle.dynamic_data.proofs.NamesApart.{type_is_faithful}
 use Rattle.dynamic_data.proofs.NameTexts.{type_has_texts}
 use Rattle.dynamic_data.proofs.Results.{ok_then}
-use Rattle.dynamic_data.proofs.json.to_json.Goals as goal
+use Rattle.dynamic_data.proofs.texts.to_json.Goals as goal
 
 pub write_json-requires : goal.write_json-requires
 write_json-requires c = type_has_texts (tree c.args.ty.now) c.requires

@@ -8,7 +8,7 @@ use Rattle.json_values.specs.Read.{read_as}
 use Rattle.dynamic_data.proofs.NameTexts.{type_has_texts}
 use Rattle.dynamic_data.proofs.Results.{ok_then}
 use Rattle.dynamic_data.proofs.Typed.{read_typed}
-use Rattle.dynamic_data.proofs.json.from_json.Goals as goal
+use Rattle.dynamic_data.proofs.texts.from_json.Goals as goal
 
 pub read_json-requires-clause-deep : goal.read_json-requires-clause-deep
 read_json-requires-clause-deep c = (limits_kept (tree c.args.ty.now) c.requires).0

@@ -1,0 +1,6 @@
+pub mod Floats
+pub mod Walks
+pub mod Bits
+pub mod Texts
+pub mod Forms
+pub mod Laws

@@ -1,0 +1,13 @@
+//! Floats as numbers in the JSON of values: a text with raw bits for floats becomes one with numbers, and a value is read from either.
+
+mod cases;
+mod doubles;
+mod forms;
+mod laws;
+mod leaves;
+mod singles;
+mod texts;
+mod walk;
+
+pub use laws::{bits_are_read, numbers_come_back};
+pub use texts::{from_numbers, with_numbers};
