@@ -1,8 +1,8 @@
 #!/usr/bin/env python3
 """Holds include/xt.h against what the library exports: tools/header_check.py [LIBRARY ..]
 
-Calls, with their parameters, against the exports of crates/xt_c; statuses, representations and policies against crates/xt_calls; what the bindings
-in Python and Rust declare against the header; and the symbols of each LIBRARY, an archive or a shared object, which has no other names. Each difference
+Calls, with their parameters, against the exports of crates/xt_c; statuses, representations, policies and flags of JSON against crates/xt_calls; what the
+bindings in Python and Rust declare against the header; and the symbols of each LIBRARY, an archive or a shared object, which has no other names. Each difference
 is a line, and then the status is 1."""
 import ctypes
 import pathlib
@@ -85,6 +85,11 @@ def representations(source):
 
 def policies(source):
     return {POLICIES[name]: int(number) for name, number in re.findall(r"(\w+): !?\(?flags / (\d+) % 2", source)}
+
+
+def flags(source):
+    """The flags of JSON. 0 has no name."""
+    return {name.upper(): int(number) for number, name in re.findall(r"(\d+) => Some\(Floats::(\w+)\)", source) if number != "0"}
 
 
 # ---- the bindings
@@ -181,7 +186,7 @@ def check_library(differences, calls, library):
 def main(libraries):
     header, differences = text_of("include/xt.h"), Differences()
     calls, numbers = header_calls(header), header_numbers(header)
-    if not calls or len(numbers) != 3:
+    if not calls or len(numbers) != 4:
         differences.say(f"the header has {len(calls)} calls and {len(numbers)} enumerations")
         return 1
     words = text_of("crates/xt_calls/src/words.rt")
@@ -191,6 +196,7 @@ def main(libraries):
         ("status", numbers[0], statuses(text_of("crates/xt_calls/src/answers.rt"))),
         ("representation", numbers[1], representations(words)),
         ("policy", numbers[2], policies(words)),
+        ("flag", numbers[3], flags(words)),
     ):
         differences.compare(what, ours, theirs, "crates/xt_calls")
     check_bindings(differences, calls, {*numbers[0].values()} - {numbers[0]["OK"], numbers[0]["ROOM"]})
