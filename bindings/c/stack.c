@@ -112,6 +112,8 @@ static void try_samples(const char *name, xt_reader *reader, uint32_t rep, const
     expect("read", name, xt_read(reader, sample.at, sample.size, 0, room, sizeof room, &needed), XT_OK);
     expect("key hash", name, xt_key_hash(reader, sample.at, sample.size, room, sizeof room, &needed), XT_OK);
     expect("conversion", name, xt_convert(reader, sample.at, sample.size, 3 - rep, room, sizeof room, &needed), XT_OK);
+    expect("read with numbers", name, xt_read(reader, sample.at, sample.size, XT_NUMBERS, room, sizeof room, &needed), XT_OK);
+    expect("write with numbers", name, xt_write(reader, json->at, json->size, rep, XT_NUMBERS, room, sizeof room, &needed), XT_OK);
     for (size_t cut = 0; cut < sample.size; cut++) xt_read(reader, sample.at, cut, 0, room, sizeof room, &needed);
     for (size_t cut = 0; cut < json->size; cut++) xt_write(reader, json->at, cut, rep, 0, room, sizeof room, &needed);
     free_octets(&sample);
@@ -194,6 +196,7 @@ static void try_deep_json(const char *open) {
     expect("types", open, xt_types_open(&types, bundle.at, bundle.size, room, sizeof room, &needed), XT_OK);
     expect("reader", open, xt_reader_open(&reader, &types, OCTETS("T"), OCTETS("T"), XT_XCDR2, 0, room, sizeof room, &needed), XT_OK);
     expect("write", open, xt_write(&reader, json.at, json.size, XT_XCDR2, 0, room, sizeof room, &needed), XT_JSON);
+    expect("write with numbers", open, xt_write(&reader, json.at, json.size, XT_XCDR2, XT_NUMBERS, room, sizeof room, &needed), XT_JSON);
     xt_reader_close(&reader);
     xt_types_close(&types);
     free_octets(&bundle);
