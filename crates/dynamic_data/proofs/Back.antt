@@ -16,7 +16,7 @@ use Rattle.type_trees.specs.Bridge.{literal_shape, shape, member_shapes, case_sh
 use Rattle.json_values.specs.Names.{member_names}
 use Rattle.json_values.specs.Steps.{Reading, beneath, and_then}
 use Rattle.json_values.specs.Read as spec
-use Rattle.json_values.specs.Read.{value_of, case_reading, body_of, case_of, if_json, read_as, json_of}
+use Rattle.json_values.specs.Read.{value_of, case_reading, body_of, case_of}
 use Rattle.json_values.specs.Written.{data_of, case_data, body_data, disc_key, value_key, prim_data, literal_data, mask_data, octets_data, int_data, list_data, map_data, struct_data, union_data, vals_data, pairs_data, slots_data}
 use Rattle.dynamic_data.proofs.Faithful.{are_apart, is_faithful, members_are_faithful, cases_are_faithful}
 use Rattle.dynamic_data.proofs.BackLeaves.{at_false, back_prim, back_text, back_literal, back_mask}
@@ -157,6 +157,3 @@ mutual
   cases_back (one_case h t cs) ok =
       let parts = and_parts (is_faithful t) (cases_are_faithful cs) ok in
       (back t parts.0, cases_back cs parts.1)
-
-pub value_read : (t : Tree) (v : Val) (octets : List ℕ) → json_of octets ≡ Some (data_of t v) → is_faithful t ≡ true → has_type (shape t) v ≡ true → read_as t octets ≡ Ok v
-value_read t v octets found ok has = ap (if_json t) found ∙ back t ok v has

@@ -18,3 +18,4 @@ pub mod Turned
 pub mod TwoWalks
 pub mod Unions
 pub mod Walked
+pub mod Written

@@ -8,4 +8,4 @@ mod texts;
 pub use json_values::{JsonRule, ValueFault};
 pub use numbers::{bits_are_read, from_numbers, numbers_come_back, with_numbers};
 pub use reach::get;
-pub use texts::{from_json, to_json};
+pub use texts::{from_json, json_is_read, to_json};

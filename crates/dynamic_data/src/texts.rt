@@ -6,6 +6,7 @@ ghost use Rattle.type_rules.specs.Valid.{type_fault};
 ghost use Rattle.json_values.specs.Written.{json_text};
 ghost use Rattle.json_values.specs.Read.{read_as};
 ghost use Rattle.json_values.specs.Steps.{FailsAs};
+ghost use Rattle.dynamic_data.specs.Laws as law;
 
 use json_values::{ValueFault, read_json, write_json};
 use std::alloc::Global;
@@ -50,3 +51,8 @@ pub fn from_json(alloc: Global, ty: &XType, text: &[u8]) -> Result<Value, ValueF
 {
     read_json(alloc, ty, text)
 }
+
+/// The JSON of a value of a valid type is read as that value.
+pub fn json_is_read()
+    ensures { law.JsonIsRead }
+{}

@@ -9,9 +9,9 @@ use Rattle.xt_calls.specs.declared.types.Types.{Types}
 use Rattle.xt_calls.specs.declared.readers.Reader.{Reader}
 use Rattle.xt_calls.specs.Calls as calls
 use Rattle.xt_calls.specs.declared.words.Floats.{Floats}
-use Rattle.xt_calls.specs.Laws.{NumbersComeBack, CommandsAgree, Headline}
+use Rattle.xt_calls.specs.Laws.{ValuesComeBack, CommandsAgree, Headline}
 use Rattle.xt_calls.specs.Opened.{front}
-use Rattle.xt_c.specs.Exports.{SaysIn, SaysAs, WritesIn, WritesAs, SaysShown, ShowsLine, ReadsShown, Opens, OpensReader, AgreesWithCommands, ReadsProjections}
+use Rattle.xt_c.specs.Exports.{SaysIn, SaysAs, WritesIn, WritesAs, SaysShown, ShowsLine, ReadComesBack, Opens, OpensReader, AgreesWithCommands, ReadsProjections}
 
 writes_as : {A K X : Type 0} (asked : Option A) (view : Answer → X) (answer : A → K → Answer) (x : A → K → X) (kept : K) (old new : List ℕ) (needed status : ℕ) → ((a : A) (k : K) → view (answer a k) ≡ x a k) → SaysAs asked answer kept old new needed status → WritesAs asked view x kept old new needed status
 writes_as None view answer x kept old new needed status law says = says
@@ -31,9 +31,9 @@ shows_line (Some floats) view answer x (Some kept) old new needed status law (in
 shows_line (Some floats) view answer x (Some kept) old new needed status law (inr none) = inr none
 
 -- a reader's type is valid
-pub reads_shown : NumbersComeBack → (held : Option Reader) → ReadsShown held
-reads_shown law None = tt
-reads_shown law (Some kept) = law (tree kept.ty) kept.valid
+pub read_comes_back : ValuesComeBack → (held : Option Reader) → ReadComesBack held
+read_comes_back law None = tt
+read_comes_back law (Some kept) = law kept.rep (tree kept.ty) kept.valid
 
 pub agrees : CommandsAgree → (held : Option Types) → AgreesWithCommands held
 agrees law None = tt

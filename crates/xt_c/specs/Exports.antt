@@ -12,7 +12,7 @@ use Rattle.tool_runs.specs.declared.output.stop.Stop.{Stop}
 use Rattle.tool_runs.specs.declared.output.stop.Stop.TheVariants as stops
 use Rattle.xt_calls.specs.Calls as calls
 use Rattle.xt_calls.specs.Answering.{Tells, TellsNone}
-use Rattle.xt_calls.specs.Laws.{Agrees, Projected, ShownIsRead}
+use Rattle.xt_calls.specs.Laws.{Agrees, Projected, ComesBack}
 use Rattle.xt_calls.specs.Opened.{front}
 use Rattle.xt_calls.specs.declared.answers.Answer.{Answer}
 use Rattle.xt_calls.specs.declared.types.Types.{Types}
@@ -113,10 +113,10 @@ ShowsLine floats view x None old new needed status = TellsNone 13 old new needed
 ShowsLine None view x (Some kept) old new needed status = TellsNone 2 old new needed status
 ShowsLine (Some floats) view x (Some kept) old new needed status = TellsLine view (x kept) floats (tree kept.ty) old new needed status ⊎ TellsNone 6 old new needed status
 
--- What is shown of a text means the same.
-abbrev pub ReadsShown : Option Reader → Type 0
-ReadsShown None = Unit {0}
-ReadsShown (Some kept) = ShownIsRead (tree kept.ty)
+-- What is read of a sample's value is written as that value.
+abbrev pub ReadComesBack : Option Reader → Type 0
+ReadComesBack None = Unit {0}
+ReadComesBack (Some kept) = ComesBack kept.rep (tree kept.ty)
 
 -- ---- the headline
 

@@ -25,7 +25,7 @@ use samples::{convert_in, read_in, write_in};
 use std::alloc::Global;
 use xt_calls::{
     CLOSED, MEMORY, Types, commands_agree, conversions_are_records, headline, lines_are_read,
-    nothing, numbers_come_back, tell, writes_are_records,
+    nothing, tell, values_come_back, writes_are_records,
 };
 
 /// Opens the types of a bundle, of which nothing but Notes comes behind the front. What the handle held is freed.
@@ -100,11 +100,11 @@ pub extern "C" fn xt_read(
 ) -> u32
     ensures says { spec.SaysShown (calls.floats_of flags) (λ r. calls.read_answer (tree r.ty) (read_sample r.rep (type_shape r.ty) sample.now)) reader.old.held text.old text.new needed.new result }
     ensures as_line { spec.ShowsLine (calls.floats_of flags) line_of (λ r. sample_line r.rep (tree r.ty) sample.now) reader.old.held text.old text.new needed.new result }
-    ensures comes_back { spec.ReadsShown reader.old.held }
+    ensures comes_back { spec.ReadComesBack reader.old.held }
     ensures kept { reader.new.held ≡ reader.old.held }
 {
     lines_are_read();
-    numbers_come_back();
+    values_come_back();
     read_in(alloc, reader, sample, flags, text, needed)
 }
 

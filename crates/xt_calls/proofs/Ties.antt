@@ -6,6 +6,7 @@ use Rattle.xt_shapes.specs.Vals.{Val}
 use Rattle.type_trees.specs.Trees.{Tree}
 use Rattle.type_trees.specs.Bridge.{shape}
 use Rattle.type_rules.specs.Laws.{ShapeKeepsRules}
+use Rattle.type_rules.specs.Valid.{type_fault}
 use Rattle.type_object.specs.Pools.{Texts}
 use Rattle.xcdr_model.specs.declared.malformed.Fault.{Fault}
 use Rattle.xcdr_model.specs.Failure.{First, first_failure}
@@ -13,19 +14,22 @@ use Rattle.xcdr_model.specs.Samples.{Outcome, sample, discarded, must_understand
 use Rattle.xcdr_model.specs.SampleSpelling.{sample_size}
 use Rattle.shape_laws.specs.Verdicts.{Judged}
 use Rattle.shape_laws.specs.Soundness.{CrossSample}
+use Rattle.shape_laws.specs.Readings.{SampleTyped}
 use Rattle.json_values.specs.declared.faults.ValueFault.{ValueFault}
 use Rattle.json_values.specs.declared.faults.ValueFault.TheVariants.{NotJson, Wrong, OutOfMemory}
 use Rattle.json_values.specs.Read.{read_as}
+use Rattle.json_values.specs.Written.{json_text}
 use Rattle.tool_runs.specs.output.Outputs.{Refusal, ◌>>=◌}
 use Rattle.tool_types.specs.Types.{Declared, declare}
 use Rattle.tool_types.specs.names.Identified.{id_named}
 use Rattle.tool_samples.specs.lines.Lines.{outcome_line, written, unless_failed, most_octets}
 use Rattle.tool_verdicts.specs.Verdicts.{NamedAreValid, assignable}
-use Rattle.dynamic_data.specs.numbers.Laws as Numbers
+use Rattle.dynamic_data.specs.Laws.{JsonIsRead}
+use Rattle.dynamic_data.specs.numbers.Laws.{NumbersComeBack}
 use Rattle.xt_calls.specs.declared.answers.Answer.{Answer}
 use Rattle.xt_calls.specs.declared.words.Floats.{Floats}
-use Rattle.xt_calls.specs.Calls.{read_answer, written_answer, records_of}
-use Rattle.xt_calls.specs.Laws.{line_of, record_of, turn_of, LinesAreRead, ConversionsAreRecords, WritesAreRecords, NumbersComeBack, CommandsAgree, Headline}
+use Rattle.xt_calls.specs.Calls.{read_answer, written_answer, records_of, said, Shows, meaning}
+use Rattle.xt_calls.specs.Laws.{line_of, record_of, turn_of, LinesAreRead, ConversionsAreRecords, WritesAreRecords, ValuesComeBack, CommandsAgree, Headline}
 
 -- ---- lines and records
 
@@ -55,11 +59,17 @@ writes_are_records rep t k (Err NotJson) = refl
 writes_are_records rep t k (Err (Wrong path rule)) = refl
 writes_are_records rep t k (Err OutOfMemory) = refl
 
--- ---- floats as numbers
+-- ---- what is read, and written again
 
-pub numbers_come_back : Numbers.NumbersComeBack → NumbersComeBack
-numbers_come_back law t valid Floats.Bits text v shown is shows = ap (λ (a : Answer). read_as t a.text) shows ∙ is
-numbers_come_back law t valid Floats.Numbers text v shown is shows = law t text shown.text v valid is shows.1
+-- a text that means a value means it as it is shown
+shown_means : NumbersComeBack → (t : Tree) → type_fault t ≡ None → (floats : Floats) (text : List ℕ) (v : Val) (shown : Answer) → read_as t text ≡ Ok v → Shows floats t (said 0 text) shown → meaning floats t shown.text ≡ Ok v
+shown_means law t valid Floats.Bits text v shown is shows = ap (λ (a : Answer). read_as t a.text) shows ∙ is
+shown_means law t valid Floats.Numbers text v shown is shows = law t text shown.text v valid is shows.1
+
+pub values_come_back : JsonIsRead → NumbersComeBack → ShapeKeepsRules → SampleTyped → ValuesComeBack
+values_come_back json law kept typed rep t valid floats payload v shown octets is shows =
+    let has = typed rep (shape t) payload v (kept t valid) octets is in
+    shown_means law t valid floats (json_text t v) v shown (json t v valid has) shows
 
 -- ---- verdicts and names
 

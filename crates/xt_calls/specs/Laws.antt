@@ -1,19 +1,19 @@
 -- That the calls answer what the commands write (this profile's own).
-use Rattle.std.specs.Prelude.{◌≡◌, ℕ, List, [], ◌∷◌, ◌++◌, None, Some, Result, Ok, if◌then◌else◌, ◌==◌, codes}
+use Rattle.std.specs.Prelude.{◌≡◌, IsTrue, ℕ, nat_lt, List, [], ◌∷◌, ◌++◌, None, Some, Result, Ok, if◌then◌else◌, ◌==◌, codes}
 use Rattle.xt_io.specs.declared.Item.{Item}
 use Rattle.xt_io.specs.declared.Kind.TheVariants.{Sample, Note}
 use Rattle.xt_io.specs.Records.{record_octets}
 use Rattle.xt_shapes.specs.declared.leaves.Rep.{Rep}
+use Rattle.xt_shapes.specs.Lists.{all}
 use Rattle.xt_shapes.specs.Vals.{Val}
 use Rattle.type_trees.specs.Trees.{Tree}
 use Rattle.type_trees.specs.Bridge.{shape}
 use Rattle.type_rules.specs.Valid.{type_fault}
 use Rattle.type_object.specs.Pools.{Texts}
 use Rattle.xcdr_model.specs.declared.malformed.Fault.{Fault}
-use Rattle.xcdr_model.specs.Samples.{Outcome, read_sample, projection}
+use Rattle.xcdr_model.specs.Samples.{Outcome, sample, read_sample, projection}
 use Rattle.xcdr_model.specs.SampleSpelling.{IsSample}
 use Rattle.json_values.specs.declared.faults.ValueFault.{ValueFault}
-use Rattle.json_values.specs.Read.{read_as}
 use Rattle.tool_runs.specs.output.Outputs.{Turn, goes_on, over, ◌>>=◌}
 use Rattle.tool_types.specs.Types.{Declared, declare}
 use Rattle.tool_types.specs.names.Identified.{id_named}
@@ -23,7 +23,7 @@ use Rattle.tool_samples.specs.lines.Lines.{sample_line, converted, written, json
 use Rattle.tool_verdicts.specs.Verdicts.{reader_type, id_and_pool}
 use Rattle.xt_calls.specs.declared.answers.Answer.{Answer}
 use Rattle.xt_calls.specs.declared.words.Floats.{Floats}
-use Rattle.xt_calls.specs.Calls.{types_of, reader_of, read_answer, converted_answer, written_answer, said, Shows, meaning}
+use Rattle.xt_calls.specs.Calls.{types_of, reader_of, read_answer, converted_answer, written_answer, Shows, meaning}
 
 -- ---- `read`
 
@@ -53,14 +53,15 @@ turn_of k answer = if answer.status == 0 then goes_on (record_octets Sample answ
 abbrev pub WritesAreRecords : Type 0
 WritesAreRecords = (rep : Rep) (t : Tree) (k : ℕ) (read : Result Val ValueFault) → turn_of k (written_answer rep t read) ≡ written rep t k read
 
--- ---- floats as numbers
+-- ---- what is read, and written again
 
--- A text that means a value still means it as `xt_read` shows it: `xt_write` reads it with the same flags.
-abbrev pub ShownIsRead : Tree → Type 0
-ShownIsRead t = (floats : Floats) (text : List ℕ) (v : Val) (shown : Answer) → read_as t text ≡ Ok v → Shows floats t (said 0 text) shown → meaning floats t shown.text ≡ Ok v
+-- What `xt_read` shows of a sample's value, `xt_write` reads as that value with the same flags.
+abbrev pub ComesBack : Rep → Tree → Type 0
+ComesBack rep t = (floats : Floats) (payload : List ℕ) (v : Val) (shown : Answer) → IsTrue (all (λ c. nat_lt c 256) payload) → read_sample rep (shape t) payload ≡ Ok (sample v)
+    → Shows floats t (read_answer t (Ok (sample v))) shown → meaning floats t shown.text ≡ Ok v
 
-abbrev pub NumbersComeBack : Type 0
-NumbersComeBack = (t : Tree) → type_fault t ≡ None → ShownIsRead t
+abbrev pub ValuesComeBack : Type 0
+ValuesComeBack = (rep : Rep) (t : Tree) → type_fault t ≡ None → ComesBack rep t
 
 -- ---- `judge`, and identifiers
 

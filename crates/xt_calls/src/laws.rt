@@ -1,5 +1,6 @@
 ghost use Rattle.xt_calls.specs.Laws as law;
 
+use dynamic_data::{json_is_read, numbers_come_back};
 use tool_verdicts::named_are_valid;
 use type_rules::shape_keeps_rules;
 
@@ -13,11 +14,14 @@ pub fn conversions_are_records()
     ensures { law.ConversionsAreRecords }
 {}
 
-/// What is read of a value with floats as numbers, or as raw bits, is written as that value again.
-pub fn numbers_come_back()
-    ensures { law.NumbersComeBack }
+/// What is read of a sample's value, with floats as numbers or as raw bits, is written as that value again.
+pub fn values_come_back()
+    ensures { law.ValuesComeBack }
 {
-    dynamic_data::numbers_come_back();
+    json_is_read();
+    numbers_come_back();
+    shape_keeps_rules();
+    shape_laws::sample_typed();
 }
 
 /// What a text is written as is the record that `write` writes of its meaning, or its refusal.

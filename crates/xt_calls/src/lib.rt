@@ -16,7 +16,7 @@ mod words;
 
 pub use answers::{Answer, CLOSED, DONE, MEMORY, WORDS, answer_of, nothing, tell};
 pub use laws::{
-    commands_agree, conversions_are_records, headline, lines_are_read, numbers_come_back,
+    commands_agree, conversions_are_records, headline, lines_are_read, values_come_back,
     writes_are_records,
 };
 pub use readers::Reader;

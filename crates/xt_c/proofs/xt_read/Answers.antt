@@ -5,7 +5,7 @@ use Rattle.tool_samples.specs.lines.Lines.{sample_line}
 use Rattle.xt_calls.specs.declared.readers.Reader.{Reader}
 use Rattle.xt_calls.specs.Calls.{floats_of, read_answer}
 use Rattle.xt_calls.specs.Laws.{line_of}
-use Rattle.xt_c.proofs.Told.{shows_line, reads_shown}
+use Rattle.xt_c.proofs.Told.{shows_line, read_comes_back}
 use Rattle.xt_c.proofs.xt_read.Goals as goal
 
 pub returns-clause-as_line : goal.returns-clause-as_line
@@ -14,4 +14,4 @@ returns-clause-as_line c =
     (λ r. c.lines_are_read.ensures r.rep (tree r.ty) c.args.sample.now) c.read_in.ensures.says
 
 pub returns-clause-comes_back : goal.returns-clause-comes_back
-returns-clause-comes_back c = reads_shown c.numbers_come_back.ensures c.args.reader.now.held
+returns-clause-comes_back c = read_comes_back c.values_come_back.ensures c.args.reader.now.held
