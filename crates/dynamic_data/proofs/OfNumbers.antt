@@ -18,4 +18,5 @@ pub mod Turned
 pub mod TwoWalks
 pub mod Unions
 pub mod Walked
+pub mod WithoutFloats
 pub mod Written

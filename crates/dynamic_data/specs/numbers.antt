@@ -3,4 +3,5 @@ pub mod Walks
 pub mod Bits
 pub mod Texts
 pub mod Forms
+pub mod Kinds
 pub mod Laws

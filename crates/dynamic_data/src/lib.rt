@@ -6,6 +6,9 @@ mod reach;
 mod texts;
 
 pub use json_values::{JsonRule, ValueFault};
-pub use numbers::{bits_are_read, from_numbers, numbers_come_back, with_numbers};
+pub use numbers::{
+    bits_are_read, from_numbers, has_floats, numbers_come_back, plain_is_read, plain_is_shown,
+    with_numbers,
+};
 pub use reach::get;
 pub use texts::{from_json, json_is_read, to_json};

@@ -3,11 +3,13 @@
 mod cases;
 mod doubles;
 mod forms;
+mod kinds;
 mod laws;
 mod leaves;
 mod singles;
 mod texts;
 mod walk;
 
-pub use laws::{bits_are_read, numbers_come_back};
+pub use kinds::has_floats;
+pub use laws::{bits_are_read, numbers_come_back, plain_is_read, plain_is_shown};
 pub use texts::{from_numbers, with_numbers};

@@ -15,14 +15,14 @@ use Rattle.dynamic_data.proofs.OfNumbers.Leaves.{Stays}
 
 -- ---- nothing is changed
 
-abbrev Self : Turn → Type 0
+abbrev pub Self : Turn → Type 0
 Self S = (j : Json) → S j j
 
 self_items : (S : Turn) → Self S → (js : json.Items) → ItemsTurn S js js
 self_items S step json.no_items = refl
 self_items S step (json.item j js) = (j, js, refl, step j, self_items S step js)
 
-self_array : (S : Turn) → Self S → Self (ArrayTurns S)
+pub self_array : (S : Turn) → Self S → Self (ArrayTurns S)
 self_array S step json.null = refl
 self_array S step (json.boolean b) = refl
 self_array S step (json.number n) = refl
@@ -30,7 +30,7 @@ self_array S step (json.string s) = refl
 self_array S step (json.array js) = (js, refl, self_items S step js)
 self_array S step (json.object ms) = refl
 
-self_pair : (S P : Turn) → Self S → Self P → Self (PairTurns S P)
+pub self_pair : (S P : Turn) → Self S → Self P → Self (PairTurns S P)
 self_pair S P key value json.null = refl
 self_pair S P key value (json.boolean b) = refl
 self_pair S P key value (json.number n) = refl
@@ -45,7 +45,7 @@ self_members : (S : List ℕ → Turn) → ((key : List ℕ) → Self (S key)) �
 self_members S step json.no_members = refl
 self_members S step (json.member key j ms) = (j, ms, refl, step key j, self_members S step ms)
 
-self_object : (S : List ℕ → Turn) → ((key : List ℕ) → Self (S key)) → Self (ObjectTurns S)
+pub self_object : (S : List ℕ → Turn) → ((key : List ℕ) → Self (S key)) → Self (ObjectTurns S)
 self_object S step json.null = refl
 self_object S step (json.boolean b) = refl
 self_object S step (json.number n) = refl
@@ -53,11 +53,11 @@ self_object S step (json.string s) = refl
 self_object S step (json.array js) = refl
 self_object S step (json.object ms) = (ms, refl, self_members S step ms)
 
-self_either : (b : Bool) (S P : Turn) → Self S → Self P → (j : Json) → MatchBool b (S j j) (P j j)
+pub self_either : (b : Bool) (S P : Turn) → Self S → Self P → (j : Json) → MatchBool b (S j j) (P j j)
 self_either true S P p q j = p j
 self_either false S P p q j = q j
 
-self_selected : (S : ℕ → Turn) → ((id : ℕ) → Self (S id)) → (o : Option ℕ) → Self (SelectedTurns S o)
+pub self_selected : (S : ℕ → Turn) → ((id : ℕ) → Self (S id)) → (o : Option ℕ) → Self (SelectedTurns S o)
 self_selected S step None j = refl
 self_selected S step (Some id) j = step id j
 

@@ -9,3 +9,13 @@ pub fn numbers_come_back()
 pub fn bits_are_read()
     ensures { law.BitsAreRead }
 {}
+
+/// The JSON of a value of a type without floats is also its JSON with numbers.
+pub fn plain_is_shown()
+    ensures { law.PlainIsShown }
+{}
+
+/// For such a type a text means the same where floats may be numbers.
+pub fn plain_is_read()
+    ensures { law.PlainIsRead }
+{}
