@@ -2,3 +2,4 @@ pub mod Ties
 pub mod Tops
 pub mod Keyed
 pub mod Texts
+pub mod WithoutFloats

@@ -181,6 +181,11 @@ abbrev pub meaning : Floats → Tree → List ℕ → Result Val ValueFault
 meaning Floats.Bits t text = read_as t text
 meaning Floats.Numbers t text = read_numbers t text
 
+-- for a type, what floats in one form show and mean is what they do in another
+pub record StandsFor (form floats : Floats) (t : Tree) : Type 0 where
+  pub shown : (read : Result Outcome Fault) (answer : Answer) → Shows form t (read_answer t read) answer → Shows floats t (read_answer t read) answer
+  pub meant : (text : List ℕ) → meaning form t text ≡ meaning floats t text
+
 -- the sample of a value, unless it is too large
 abbrev pub sample_answer : ℕ → List ℕ → Rep → Tree → Val → Answer
 sample_answer status text rep t v = if nat_lt most_octets (sample_size rep (shape t) v) then said status text else said 0 (fixed_sample rep Little (shape t) v)

@@ -6,6 +6,7 @@ ghost use Rattle.settled_parts.specs.Settling.{outcome_val};
 ghost use Rattle.xcdr_model.specs.Samples.{read_sample};
 ghost use Rattle.json_values.specs.Steps.{FailsAs};
 ghost use Rattle.json_values.specs.declared.faults.ValueFault.TheVariants.{OutOfMemory as NoMemory};
+ghost use Rattle.dynamic_data.specs.numbers.Kinds as kinds;
 ghost use Rattle.tool_samples.specs.lines.Lines as lines;
 ghost use Rattle.tool_runs.specs.output.Runs.{Comes};
 ghost use Rattle.xt_calls.specs.Calls as spec;
@@ -18,7 +19,10 @@ use crate::answers::{
 use crate::plain::plain_sample;
 use crate::types::Types;
 use crate::words::{Floats, pair_of};
-use dynamic_data::{ValueFault, from_json, from_numbers, to_json, with_numbers};
+use dynamic_data::{
+    ValueFault, from_json, from_numbers, has_floats, plain_is_read, plain_is_shown, to_json,
+    with_numbers,
+};
 use packed_json::{Plan, write_value};
 use packed_reader::read_plain;
 use settled_parts::Outcome;
@@ -41,8 +45,10 @@ pub struct Reader {
     pub(crate) rep: Rep,
     pub(crate) ty: XType,
     plan: Option<Plan>,
+    has_floats: bool,
     ghost valid: { IsValid ty },
     ghost planned: { PlansFor (tree ty) plan },
+    ghost settled: { has_floats ≡ kinds.has_floats (tree ty) },
 }
 
 pub(crate) fn malformed(alloc: Global, at: u64, why: Why) -> Result<Answer, OutOfMemory>
@@ -162,10 +168,12 @@ impl Reader {
         };
         let ty = assignable(alloc, &pair, types.declared.as_slice(), &types.pool)?;
         let plan = plan_for(alloc, pair.rep, &ty);
+        let has_floats = has_floats(&ty);
         Ok(Reader {
             rep: pair.rep,
             ty,
             plan,
+            has_floats,
         })
     }
 
@@ -188,12 +196,25 @@ impl Reader {
         Some(Answer { status: DONE, text })
     }
 
+    // The form that is worth its work: raw bits, also where numbers were asked, for a type without floats.
+    fn form(&self, floats: Floats) -> Floats
+        ensures { spec.StandsFor result floats (tree self.now.ty) }
+    {
+        plain_is_shown();
+        plain_is_read();
+        if self.has_floats {
+            floats
+        } else {
+            Floats::Bits
+        }
+    }
+
     /// What the reader's type makes of a sample, as JSON.
     pub fn read(&self, alloc: Global, floats: Floats, sample: &[u8]) -> Result<Answer, OutOfMemory>
         ensures { IfOk result (spec.Shows floats (tree self.now.ty) (spec.read_answer (tree self.now.ty) (read_sample self.now.rep (type_shape self.now.ty) sample.now))) }
     {
         let plain = self.read_bits(alloc, sample)?;
-        shown(alloc, floats, &self.ty, plain)
+        shown(alloc, self.form(floats), &self.ty, plain)
     }
 
     // The same, with floats as their raw bits.
@@ -259,7 +280,7 @@ impl Reader {
     ) -> Result<Answer, OutOfMemory>
         ensures { IfOk result (λ answer. answer ≡ spec.written_answer to (tree self.now.ty) (spec.meaning floats (tree self.now.ty) json.now)) }
     {
-        match meaning(alloc, floats, &self.ty, json) {
+        match meaning(alloc, self.form(floats), &self.ty, json) {
             Ok(value) => sample_of(alloc, JSON, b"LARGE /", to, &self.ty, &value),
             Err(fault) => refuse_value(alloc, fault),
         }
