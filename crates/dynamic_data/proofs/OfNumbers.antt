@@ -6,6 +6,7 @@ pub mod Kept
 pub mod KeptLeaves
 pub mod Leaves
 pub mod Meaning
+pub mod MemberPlaces
 pub mod NumberTexts
 pub mod Objects
 pub mod Onward

@@ -4,4 +4,5 @@ pub mod Bits
 pub mod Texts
 pub mod Forms
 pub mod Kinds
+pub mod Places
 pub mod Laws

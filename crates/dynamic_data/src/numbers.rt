@@ -6,6 +6,7 @@ mod forms;
 mod kinds;
 mod laws;
 mod leaves;
+mod members;
 mod singles;
 mod texts;
 mod walk;

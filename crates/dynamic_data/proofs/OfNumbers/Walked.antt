@@ -1,8 +1,7 @@
 -- What a walk has written so far of an array or an object.
-use Rattle.std.proofs.Common.{◌≡◌, refl, ℕ, ◌+◌, ◌<◌, max, List, [], ◌∷◌, ◌++◌, length, drop, get_or, true, false, ◌&&◌, Result, Ok, Err, Vec, Global, sym, ap, ◌∙◌, subst, arith, eq-eqb, append_assoc, append-nil}
-use Rattle.std.specs.Prelude.{OnOk, bytes_eq}
+use Rattle.std.proofs.Common.{◌≡◌, refl, ℕ, ◌+◌, ◌<◌, max, List, [], ◌∷◌, ◌++◌, length, drop, get_or, true, ◌&&◌, Result, Ok, Err, Vec, Global, sym, ap, ◌∙◌, subst, arith, eq-eqb, append_assoc, append-nil}
+use Rattle.std.specs.Prelude.{OnOk}
 use Rattle.std.specs.Borrow.{Bor}
-use Rattle.std.specs.Str.{is_utf8}
 use Rattle.std.proofs.lemmas.List.{drop_more}
 use Rattle.std.proofs.lemmas.Bool.{and_parts}
 use borrow.Author.Tests.{ne_eqb}
@@ -15,13 +14,12 @@ use Rattle.json.specs.Written.{Written}
 use Rattle.json.specs.declared.value.Value as v
 use Rattle.json.specs.declared.value.Value.{Value}
 use Rattle.xt_shapes.specs.declared.leaves.Primitive.{Primitive}
-use Rattle.type_trees.specs.declared.types.Member.{Member}
 use Rattle.type_trees.specs.declared.types.Case.{Case}
-use Rattle.type_trees.specs.View.{tree, members_tree, cases_tree}
-use Rattle.type_trees.proofs.Views.{member_tree_is, case_tree_is}
-use Rattle.type_rules.specs.Places.{depth, members_depth, cases_depth}
-use Rattle.json_values.specs.Names.{name_text, has_text_names, members_have_text_names, cases_have_text_names}
-use Rattle.dynamic_data.specs.numbers.Walks.{Turn, ItemsTurn, ArrayTurns, PairTurns, MembersTurn, ObjectTurns, Turns, MemberTurns, CaseTurns}
+use Rattle.type_trees.specs.View.{tree, cases_tree}
+use Rattle.type_trees.proofs.Views.{case_tree_is}
+use Rattle.type_rules.specs.Places.{depth, cases_depth}
+use Rattle.json_values.specs.Names.{has_text_names, cases_have_text_names}
+use Rattle.dynamic_data.specs.numbers.Walks.{Turn, ItemsTurn, ArrayTurns, PairTurns, MembersTurn, ObjectTurns, Turns, CaseTurns}
 use Rattle.dynamic_data.specs.numbers.Forms.{Puts, PutsItems, PutsMembers}
 use Rattle.dynamic_data.proofs.OfNumbers.JsonViews.{view_array, view_object}
 
@@ -135,15 +133,7 @@ two_turned T S (x ∷ y ∷ []) a b old opened first second last is is_a is_b be
     ∙ append_assoc old (begin_array ∷ []) (json_tokens c ++ (json_tokens d ++ end)) in
     (json.array pair, shown, (c, d, refl, subst (λ v. T (value_view v) c) is_a one.2, subst (λ v. S (value_view v) d) is_b two.2))
 
--- ---- members and cases, one by one
-
-pub member_here : (L : Primitive → Turn) (m : Member) (ms : List Member) (i : ℕ) (name : List ℕ) (j k : Json) → i < length ms → m ≡ get_or ms i m → true ≡ bytes_eq (name_text m.name) name
-    → Turns L (tree m.ty) j k → MemberTurns L (members_tree (drop i ms)) name j k
-member_here L m ms i name j k within is named turned = rw (drop_more ms i m within, ← is, member_tree_is m, ← named) turned
-
-pub member_past : (L : Primitive → Turn) (m : Member) (ms : List Member) (i : ℕ) (name : List ℕ) (j k : Json) → i < length ms → m ≡ get_or ms i m → false ≡ bytes_eq (name_text m.name) name
-    → MemberTurns L (members_tree (drop (i + 1) ms)) name j k → MemberTurns L (members_tree (drop i ms)) name j k
-member_past L m ms i name j k within is other later = rw (drop_more ms i m within, ← is, member_tree_is m, ← other) later
+-- ---- cases, one by one
 
 pub case_here : (L : Primitive → Turn) (c : Case) (cs : List Case) (i id : ℕ) (j k : Json) → i < length cs → c ≡ get_or cs i c → c.id ≡ id
     → Turns L (tree c.ty) j k → CaseTurns L (cases_tree (drop i cs)) id j k
@@ -152,16 +142,6 @@ case_here L c cs i id j k within is same turned = rw (drop_more cs i c within, �
 pub case_past : (L : Primitive → Turn) (c : Case) (cs : List Case) (i id : ℕ) (j k : Json) → i < length cs → c ≡ get_or cs i c → (c.id ≡ id → ⊥)
     → CaseTurns L (cases_tree (drop (i + 1) cs)) id j k → CaseTurns L (cases_tree (drop i cs)) id j k
 case_past L c cs i id j k within is other later = rw (drop_more cs i c within, ← is, case_tree_is c, ne_eqb c.id id other) later
-
-pub members_depth_at : (m : Member) (ms : List Member) (i : ℕ) → i < length ms → m ≡ get_or ms i m
-    → members_depth (members_tree (drop i ms)) ≡ max (depth (tree m.ty)) (members_depth (members_tree (drop (i + 1) ms)))
-members_depth_at m ms i within is = rw (drop_more ms i m within, ← is, member_tree_is m) refl
-
-pub members_named_at : (m : Member) (ms : List Member) (i : ℕ) → i < length ms → m ≡ get_or ms i m → members_have_text_names (members_tree (drop i ms)) ≡ true
-    → members_have_text_names (members_tree (drop (i + 1) ms)) ≡ true
-members_named_at m ms i within is h =
-    let here : members_have_text_names (members_tree (drop i ms)) ≡ is_utf8 (name_text m.name) && (has_text_names (tree m.ty) && members_have_text_names (members_tree (drop (i + 1) ms))) = rw (drop_more ms i m within, ← is, member_tree_is m) refl in
-    (and_parts _ _ (and_parts _ _ (sym here ∙ h)).1).1
 
 pub cases_depth_at : (c : Case) (cs : List Case) (i : ℕ) → i < length cs → c ≡ get_or cs i c
     → cases_depth (cases_tree (drop i cs)) ≡ max (depth (tree c.ty)) (cases_depth (cases_tree (drop (i + 1) cs)))

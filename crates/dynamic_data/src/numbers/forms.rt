@@ -1,6 +1,6 @@
 /// What is written in place of a leaf.
 #[derive(Debug, Clone, Copy, PartialEq, Eq)]
-pub enum Form {
+pub(crate) enum Form {
     /// A number for the raw bits of a finite float.
     Numbers,
     /// Raw bits for a number that stands for a float, and an empty text for one that is too large.

@@ -1,9 +1,8 @@
-ghost use Rattle.std.specs.Prelude.{◌≡◌, true, [], ◌∷◌, ◌++◌, IfSome, OnOk};
+ghost use Rattle.std.specs.Prelude.{◌≡◌, true, IfSome};
 ghost use Rattle.std.specs.Int.{w32};
 ghost use Rattle.std.specs.Float.{binary32, float_is_finite};
 ghost use Rattle.hex.specs.Hex.{decode_sized};
 ghost use Rattle.json.specs.Json.{number, string};
-ghost use Rattle.json.specs.Token.{string as digits_token};
 ghost use Rattle.json.specs.Tree.{HasNumbers};
 ghost use Rattle.json.specs.Value.{value_view};
 ghost use Rattle.dynamic_data.specs.numbers.Floats as spec;
@@ -65,8 +64,7 @@ fn show(text: &str, out: &mut Writer) -> Result<(), OutOfMemory>
 
 fn put_digits(float: f32, out: &mut Writer) -> Result<(), OutOfMemory>
     requires { float_is_finite float ≡ true }
-    ensures before { out.new.before ≡ out.old.before }
-    ensures ok { OnOk result (out.new.tokens ≡ out.old.tokens ++ digits_token (spec.hex_text w32 binary32 float) ∷ []) }
+    ensures { Puts (λ j k. k ≡ j) (string (spec.hex_text w32 binary32 float)) result out.old out.new }
 {
     let digits = digits_of(float);
     out.string(text_of(digits.as_slice()))?;

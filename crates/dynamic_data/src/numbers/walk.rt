@@ -6,13 +6,14 @@ ghost use Rattle.type_rules.specs.Places.{depth, members_depth, cases_depth};
 ghost use Rattle.type_trees.specs.View.{tree, members_tree, cases_tree, struct_tree, union_tree, map_tree};
 ghost use Rattle.json_values.specs.Names.{has_text_names, members_have_text_names, cases_have_text_names};
 ghost use Rattle.dynamic_data.specs.numbers.Forms.{LeafTurns, Puts, PutsItems, PutsMembers};
+ghost use Rattle.dynamic_data.specs.numbers.Places.{Finds};
 ghost use Rattle.dynamic_data.specs.numbers.Walks.{Turns, ArrayTurns, PairTurns, MemberTurns, SelectedTurns, CaseTurns, BodyTurns};
 
 use crate::numbers::cases::case_in;
 use crate::numbers::forms::Form;
 use crate::numbers::leaves::{keep, turn_leaf};
+use crate::numbers::members::Finder;
 use json::{Value as Json, Writer};
-use json_values::is_named;
 use std::alloc::Global;
 use type_trees::{Case, MapType, Member, StructType, UnionType, XType};
 use xt_lists::OutOfMemory;
@@ -143,27 +144,44 @@ fn turn_map(
     turn_pairs(alloc, form, kind, items.as_slice(), out)
 }
 
+// What stands at the name of a member.
+#[cycle(turn)]
+fn turn_found(
+    alloc: Global,
+    form: Form,
+    member: &Member,
+    part: &Json<'_>,
+    out: &mut Writer,
+) -> Result<(), OutOfMemory>
+    requires deep { depth (tree member.now.ty) ≤ 16 }
+    requires named { has_text_names (tree member.now.ty) ≡ true }
+    requires writable { HasNumbers (value_view part.now) }
+    ensures { Puts (Turns (LeafTurns form) (tree member.now.ty)) (value_view part.now) result out.old out.new }
+{
+    turn(alloc, form, &member.ty, part, out)
+}
+
 // What stands at a key, by the first member with that name.
 #[cycle(turn)]
 fn turn_member(
     alloc: Global,
     form: Form,
     members: &[Member],
+    finder: &Finder,
     key: &str,
     part: &Json<'_>,
     out: &mut Writer,
 ) -> Result<(), OutOfMemory>
     requires deep { members_depth (members_tree members.now) ≤ 15 }
     requires named { members_have_text_names (members_tree members.now) ≡ true }
+    requires finds { Finds members.now finder.now }
     requires writable { HasNumbers (value_view part.now) }
     ensures { Puts (MemberTurns (LeafTurns form) (members_tree members.now) key.now) (value_view part.now) result out.old out.new }
 {
-    for member in members {
-        if is_named(&member.name, key.as_bytes()) {
-            return turn(alloc, form, &member.ty, part, out);
-        }
+    match finder.place(members, key) {
+        Some(at) => turn_found(alloc, form, &members[at], part, out),
+        None => keep(part, out),
     }
-    keep(part, out)
 }
 
 // The members of an object and its brace.
@@ -172,17 +190,19 @@ fn turn_members(
     alloc: Global,
     form: Form,
     members: &[Member],
+    finder: &Finder,
     parts: &[(&str, Json<'_>)],
     out: &mut Writer,
 ) -> Result<(), OutOfMemory>
     requires deep { members_depth (members_tree members.now) ≤ 15 }
     requires named { members_have_text_names (members_tree members.now) ≡ true }
+    requires finds { Finds members.now finder.now }
     requires writable { MembersHaveNumbers (members_view parts.now) }
     ensures { PutsMembers (MemberTurns (LeafTurns form) (members_tree members.now)) (members_view parts.now) result out.old out.new }
 {
     for part in parts {
         out.key(part.0)?;
-        turn_member(alloc, form, members, part.0, &part.1, out)?;
+        turn_member(alloc, form, members, finder, part.0, &part.1, out)?;
     }
     out.end_object()?;
     Ok(())
@@ -204,8 +224,10 @@ fn turn_struct(
     let Json::Object(parts) = part else {
         return keep(part, out);
     };
+    let members = kind.members.as_slice();
+    let finder = Finder::new(alloc, members, parts.len())?;
     out.begin_object()?;
-    turn_members(alloc, form, kind.members.as_slice(), parts.as_slice(), out)
+    turn_members(alloc, form, members, &finder, parts.as_slice(), out)
 }
 
 // A body of the case with that id.

@@ -1,18 +1,19 @@
 use Rattle.std.proofs.Common.{◌≡◌, refl, ℕ, List, Option, ◌+◌, ◌<◌, length, drop, sym, ap, ◌∙◌, subst, arith, rules}
+use denote.Param.Weighed.{at_most}
 use Rattle.std.proofs.lemmas.List.{drop_all}
-use Rattle.std.specs.Prelude.{bytes_eq}
 use Rattle.json.specs.Json.{no_items, no_members}
 use Rattle.json.specs.Tree.{ItemsHaveNumbers, MembersHaveNumbers}
 use Rattle.json.specs.Value.{value_view, items_view, members_view}
 use Rattle.type_trees.specs.declared.types.Case.{Case}
 use Rattle.type_trees.specs.declared.types.UnionType.{out-UnionType}
 use Rattle.type_trees.specs.View.{tree, members_tree, cases_tree, sequence_tree, array_tree, union_tree}
+use Rattle.type_trees.proofs.types.Member.TheLaws as member_laws
 use Rattle.type_trees.proofs.Views.{tree_seq, tree_array, tree_union, sequence_tree_is, array_tree_is, map_tree_is, struct_tree_is, union_tree_is}
-use Rattle.json_values.specs.Names.{name_text}
 use Rattle.dynamic_data.specs.numbers.Forms.{LeafTurns, Puts}
 use Rattle.dynamic_data.specs.numbers.Walks.{Turns, PairTurns, ObjectTurns, MemberTurns, CaseTurns, SelectedTurns, BodyTurns, case_in}
 use Rattle.dynamic_data.proofs.OfNumbers.JsonViews.{items_at, members_at, view_array}
-use Rattle.dynamic_data.proofs.OfNumbers.Walked.{ItemsWritten, MembersWritten, one_more_item, one_more_member, all_items, all_members, put_as, not_two, two_turned, member_here, member_past, members_depth_at, members_named_at, case_here, case_past, cases_depth_at, cases_named_at, array_of, object_of}
+use Rattle.dynamic_data.proofs.OfNumbers.Walked.{ItemsWritten, MembersWritten, one_more_item, one_more_member, all_items, all_members, put_as, not_two, two_turned, case_here, case_past, cases_depth_at, cases_named_at, array_of, object_of}
+use Rattle.dynamic_data.proofs.OfNumbers.MemberPlaces.{depth_at, named_at, turned_at, kept_at}
 use Rattle.dynamic_data.proofs.numbers.walk.+turn.Goals as goal
 
 pub turn_items-loop-item-preserved : goal.turn_items-loop-item-preserved
@@ -111,40 +112,35 @@ turn_bodies-returns t c =
       all_members T (members_view xs) _ _ _ (subst (λ r. MembersWritten T (members_view xs) r c.args.out.now.tokens l.out.tokens) nothing l.invariant.written) c.in_ok-end_object.ensures.ok,
     )
 
-pub turn_member-loop-member-preserved : goal.turn_member-loop-member-preserved
-turn_member-loop-member-preserved t c =
-    let l = c.loop-member in
+pub turn_member-turn_found-requires : goal.turn_member-turn_found-requires
+turn_member-turn_found-requires t c =
     let ms = c.args.members.now in
-    let m = c.member-item.result in
-    let within : l.member-index < length ms = omega arith in
-    let other = sym c.if-is_named.false ∙ c.is_named.ensures ∙ ap (bytes_eq (name_text m.name)) c.as_bytes.ensures.value in
-    let deep = members_depth_at m ms l.member-index within c.member-item.is in record {
-      same = l.invariant.same;
-      turned = λ j k h. l.invariant.turned j k (member_past (LeafTurns c.args.form) m ms l.member-index c.args.key.now j k within c.member-item.is other h);
-      deep = omega (arith, deep, l.invariant.deep);
-      named = members_named_at m ms l.member-index within c.member-item.is l.invariant.named;
-    }
+    let m = c.index-members-at.result in
+    let within = c.in-Some.ensures.within in
+    let is = c.index-members-at.is in
+    let deep = depth_at ms c.in-Some.at m within is (search rules) in
+    let named = named_at ms c.in-Some.at m within is (search rules) in
+    let smaller = rw (← is) at (at_most member_laws.the_size ms c.in-Some.at m within) in
+    search rules
 
-pub turn_member-returns-then-is_named : goal.turn_member-returns-then-is_named
-turn_member-returns-then-is_named t c =
-    let l = c.loop-member in
+pub turn_member-returns-in-Some : goal.turn_member-returns-in-Some
+turn_member-returns-in-Some t c =
     let L = LeafTurns c.args.form in
     let ms = c.args.members.now in
-    let m = c.member-item.result in
+    let m = c.index-members-at.result in
     let j = value_view c.args.part.now in
-    let same = sym c.if-is_named.true ∙ c.is_named.ensures ∙ ap (bytes_eq (name_text m.name)) c.as_bytes.ensures.value in
-    put_as (Turns L (tree m.ty)) (MemberTurns L (members_tree ms) c.args.key.now) j c.turn.result c.args.out.now l.out c.turn.new.out l.invariant.same
-    (λ k h. l.invariant.turned j k (member_here L m ms l.member-index c.args.key.now j k (omega arith) c.member-item.is same h)) c.turn.ensures
+    let found = sym c.place.ensures.place ∙ c.in-Some.is in
+    put_as (Turns L (tree m.ty)) (MemberTurns L (members_tree ms) c.args.key.now) j c.turn_found.result c.args.out.now c.args.out.now c.turn_found.new.out refl
+    (λ k h. turned_at L ms c.in-Some.at m c.args.key.now j k found c.index-members-at.is h) c.turn_found.ensures
 
-pub turn_member-returns : goal.turn_member-returns
-turn_member-returns t c =
-    let l = c.loop-member in
+pub turn_member-returns-in-None : goal.turn_member-returns-in-None
+turn_member-returns-in-None t c =
     let L = LeafTurns c.args.form in
     let ms = c.args.members.now in
     let j = value_view c.args.part.now in
-    let nothing = drop_all l.member-index ms (omega arith) in
-    put_as (λ a b. b ≡ a) (MemberTurns L (members_tree ms) c.args.key.now) j c.keep.result c.args.out.now l.out c.keep.new.out l.invariant.same
-    (λ k h. l.invariant.turned j k (subst (λ rest. MemberTurns L (members_tree rest) c.args.key.now j k) (sym nothing) h)) c.keep.ensures
+    let none = sym c.place.ensures.place ∙ c.in-None.is in
+    put_as (λ a b. b ≡ a) (MemberTurns L (members_tree ms) c.args.key.now) j c.keep.result c.args.out.now c.args.out.now c.keep.new.out refl
+    (λ k h. kept_at L ms c.args.key.now j k none h) c.keep.ensures
 
 pub turn_case-loop-case-preserved : goal.turn_case-loop-case-preserved
 turn_case-loop-case-preserved t c =
@@ -219,11 +215,11 @@ pub turn_struct-returns : goal.turn_struct-returns
 turn_struct-returns t c =
     let L = LeafTurns c.args.form in
     let kind = c.args.kind.now in
-    let T = MemberTurns L (members_tree c.as_slice.result.now) in
-    let written = object_of T c.args.part.now c.in-Object.parts c.as_slice-2.result.now c.turn_members.result c.args.out.now c.begin_object.new.self c.turn_members.new.out
-    c.in-Object.is c.as_slice-2.ensures.value c.begin_object.ensures.room.0 c.in_ok-begin_object.ensures.ok c.turn_members.ensures in
+    let T = MemberTurns L (members_tree c.as_slice-members.result.now) in
+    let written = object_of T c.args.part.now c.in-Object.parts c.as_slice.result.now c.turn_members.result c.args.out.now c.begin_object.new.self c.turn_members.new.out
+    c.in-Object.is c.as_slice.ensures.value c.begin_object.ensures.room.0 c.in_ok-begin_object.ensures.ok c.turn_members.ensures in
     subst (λ tree. Puts (Turns L tree) (value_view c.args.part.now) c.turn_members.result c.args.out.now c.turn_members.new.out) (sym (struct_tree_is kind))
-    (subst (λ ms. Puts (ObjectTurns (MemberTurns L (members_tree ms))) (value_view c.args.part.now) c.turn_members.result c.args.out.now c.turn_members.new.out) c.as_slice.ensures written)
+    (subst (λ ms. Puts (ObjectTurns (MemberTurns L (members_tree ms))) (value_view c.args.part.now) c.turn_members.result c.args.out.now c.turn_members.new.out) c.as_slice-members.ensures written)
 
 pub turn_union-returns : goal.turn_union-returns
 turn_union-returns t c =

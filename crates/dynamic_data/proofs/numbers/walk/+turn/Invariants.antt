@@ -2,9 +2,9 @@ use Rattle.std.proofs.Common.{◌≡◌, ◌≤◌, drop, true}
 use Rattle.json.specs.Json.{Json}
 use Rattle.json.specs.Tree.{ItemsHaveNumbers, MembersHaveNumbers}
 use Rattle.json.specs.Value.{items_view, members_view}
-use Rattle.type_rules.specs.Places.{members_depth, cases_depth}
+use Rattle.type_rules.specs.Places.{cases_depth}
 use Rattle.type_trees.specs.View.{tree, members_tree, cases_tree}
-use Rattle.json_values.specs.Names.{members_have_text_names, cases_have_text_names}
+use Rattle.json_values.specs.Names.{cases_have_text_names}
 use Rattle.dynamic_data.specs.numbers.Forms.{LeafTurns}
 use Rattle.dynamic_data.specs.numbers.Walks.{Turns, PairTurns, MemberTurns, CaseTurns, SelectedTurns, BodyTurns}
 use Rattle.dynamic_data.proofs.OfNumbers.Walked.{ItemsWritten, MembersWritten}
@@ -40,15 +40,6 @@ invariant-turn_bodies-loop-part l =
       written : MembersWritten (BodyTurns (SelectedTurns (CaseTurns (LeafTurns l.form) (cases_tree l.cases)) l.id)) (members_view l.parts) rest l.initial.out.tokens l.out.tokens;
       before : l.out.before ≡ l.initial.out.before;
       writable : MembersHaveNumbers rest;
-    }
-
-abbrev pub invariant-turn_member-loop-member : goal.invariant-turn_member-loop-member
-invariant-turn_member-loop-member l =
-    let rest = members_tree (drop l.member-index l.members) in record {
-      same : l.out ≡ l.initial.out;
-      turned : (j k : Json) → MemberTurns (LeafTurns l.form) rest l.key j k → MemberTurns (LeafTurns l.form) (members_tree l.members) l.key j k;
-      deep : members_depth rest ≤ members_depth (members_tree l.members);
-      named : members_have_text_names rest ≡ true;
     }
 
 abbrev pub invariant-turn_case-loop-case : goal.invariant-turn_case-loop-case
