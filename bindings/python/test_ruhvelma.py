@@ -219,6 +219,20 @@ class OfSamples(TypesCase):
             self.assertEqual(reader.write({"f": "3dcccccd", "g": "8000000000000000"}, numbers=False), sample)
             self.is_refused(ruhvelma.BadJson, 10, "KIND /0", reader.write, {"f": 0.1, "g": -0.0}, numbers=False)
 
+    def test_wide_structures_with_floats(self):
+        names = [f"m{n}" for n in range(100)]
+        with Types("@final struct A { " + "".join(f"double {name}; " for name in names) + "};") as types:
+            reader = types.reader("A")
+            value = {name: n / 3 for n, name in enumerate(names)}
+            self.assertEqual(reader.read(reader.write(value)), value)
+
+    def test_numbers_of_types_without_floats(self):
+        with Types("@final struct A { long x; string s; };") as types:
+            reader = types.reader("A")
+            sample = reader.write({"x": 1, "s": "7ff80000"})
+            self.assertEqual(reader.read_text(sample), reader.read_text(sample, numbers=False))
+            self.is_refused(ruhvelma.BadJson, 10, "RANGE /0", reader.write, {"x": 1.5, "s": ""})
+
     def test_floats_that_are_not_finite(self):
         with Types("@final struct A { float f; double g; };") as types:
             reader = types.reader("A")

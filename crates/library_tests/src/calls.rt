@@ -53,15 +53,19 @@ fn what_is_no_sample_is_refused(rt: HostRuntime) {
 // Two float32s and a float64 in an array: 0.1 and NaN, and 1e300, in XCDR2 and little-endian order.
 const FLOATS: &[u8] = b"\0\x07\0\0\xcd\xcc\xcc\x3d\0\0\xc0\x7f\x9c\x75\0\x88\x3c\xe4\x37\x7e";
 
-fn of_floats(alloc: Global) -> Option<Reader> {
-    let types = Types::open(alloc, FRONT).ok()?;
-    Reader::open(alloc, &types, b"m::E", b"m::E", 2, 0).ok()
+// A structure of so many members that an index of their names is made.
+const WIDE: &[u8] = b"\x03\0\0\0\x3b@final struct F {float a,b,c,d,e,f,g,h,i,j,k,l,m,n,o,p,q;};";
+
+// A reader of a type that the one record of a bundle declares.
+fn reader_of(alloc: Global, front: &[u8], word: &[u8]) -> Option<Reader> {
+    let types = Types::open(alloc, front).ok()?;
+    Reader::open(alloc, &types, word, word, 2, 0).ok()
 }
 
 #[test]
 fn finite_floats_are_numbers_where_they_are_asked(rt: HostRuntime) {
     let alloc = rt.alloc();
-    let Some(reader) = of_floats(alloc) else {
+    let Some(reader) = reader_of(alloc, FRONT, b"m::E") else {
         panic!(rt; "nothing was opened");
     };
     let bits = b"{\"f\":[\"3dcccccd\",\"7fc00000\"],\"g\":\"7e37e43c8800759c\"}";
@@ -77,9 +81,39 @@ fn finite_floats_are_numbers_where_they_are_asked(rt: HostRuntime) {
 }
 
 #[test]
+fn numbers_change_nothing_where_no_float_is(rt: HostRuntime) {
+    let alloc = rt.alloc();
+    let Some(reader) = reader_of(alloc, FRONT, b"m::A") else {
+        panic!(rt; "nothing was opened");
+    };
+    let read = reader.read(alloc, Floats::Numbers, FIVE);
+    assert!(rt; read.is_ok_and(|answer| says(&answer, 0, b"{\"x\":5}")));
+    let written = reader.write(alloc, Rep::Xcdr2, Floats::Numbers, b"{\"x\":5}");
+    assert!(rt; written.is_ok_and(|answer| says(&answer, 0, FIVE)));
+    let refused = reader.write(alloc, Rep::Xcdr2, Floats::Numbers, b"{\"x\":5.5}");
+    assert!(rt; refused.is_ok_and(|answer| says(&answer, 10, b"RANGE /0")));
+}
+
+#[test]
+fn wide_structures_are_read_with_numbers(rt: HostRuntime) {
+    let alloc = rt.alloc();
+    let Some(reader) = reader_of(alloc, WIDE, b"F") else {
+        panic!(rt; "nothing was opened");
+    };
+    let text =
+        b"{\"a\":0.5,\"b\":1.5,\"c\":2.5,\"d\":3.5,\"e\":4.5,\"f\":5.5,\"g\":6.5,\"h\":7.5,\"i\":8.5,\"j\":9.5,\"k\":10.5,\"l\":11.5,\"m\":12.5,\"n\":13.5,\"o\":14.5,\"p\":15.5,\"q\":16.5}";
+    let Ok(sample) = reader.write(alloc, Rep::Xcdr2, Floats::Numbers, text) else {
+        panic!(rt; "memory was wanting");
+    };
+    assert!(rt; sample.status == 0 && sample.text.octets().len() == 72);
+    let read = reader.read(alloc, Floats::Numbers, sample.text.octets());
+    assert!(rt; read.is_ok_and(|answer| says(&answer, 0, text)));
+}
+
+#[test]
 fn what_is_no_float_is_refused(rt: HostRuntime) {
     let alloc = rt.alloc();
-    let Some(reader) = of_floats(alloc) else {
+    let Some(reader) = reader_of(alloc, FRONT, b"m::E") else {
         panic!(rt; "nothing was opened");
     };
     for (text, why) in [
