@@ -2,6 +2,7 @@
 # What a change of types breaks, and a check that stops it before it is pushed: each command is shown, and then what it prints and its status where it
 # isn't 0. examples/compare.out has it all.
 set -uo pipefail
+command -v git >/dev/null || { echo "compare.sh: git is missing (Debian: apt-get install git)" >&2; exit 2; }
 cd "$(dirname "${BASH_SOURCE[0]}")" || exit
 top="$(cd .. && pwd)"
 work=$(mktemp -d)

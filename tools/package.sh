@@ -84,7 +84,7 @@ Version: $version
 Architecture: $architecture
 Maintainer: $(git log -1 --format='%an <%ae>')
 Depends: libc6${glibc:+ (>= ${glibc#GLIBC_})}
-Suggests: parallel, python3
+Suggests: git, parallel, python3
 Section: devel
 Priority: optional
 Installed-Size: $(du -sk "$usr" | cut -f1)
