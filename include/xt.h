@@ -79,7 +79,7 @@ uint32_t xt_reader_open(xt_reader *reader, xt_types *types, const uint8_t *reads
 void xt_reader_close(xt_reader *reader);
 
 /* A sample as JSON. With XT_NUMBERS a finite float is a number with a point or an exponent, of which it is the nearest float, negative zero
- * `-0.0`; a NaN or an infinity stays a text of its bits. */
+ * `-0.0`; a NaN or an infinity stays a text of its bits. With the same flags xt_write reads the text as the value that was read. */
 uint32_t xt_read(xt_reader *reader, const uint8_t *sample, size_t sample_size, uint32_t flags, uint8_t *text, size_t room, size_t *needed);
 
 /* A sample as a sample of the reader's type in the representation `to`, in little-endian order. */
