@@ -3,6 +3,7 @@ use Rattle.std.proofs.Common.{◌≡◌, ℕ, ◌+◌, List, [], ◌∷◌, ◌+
 use Rattle.std.specs.Prelude.{Bool, ◌||◌, Option}
 use Rattle.std.specs.List.{concat}
 use Rattle.std.specs.Option.{option_map}
+use Rattle.std.specs.Result.{IsErrAnd}
 use Rattle.std.proofs.KnownBytes.{Appends-nil}
 use Rattle.xt_shapes.specs.declared.leaves.Rep.{Rep}
 use Rattle.xcdr_model.specs.declared.verdict.Policy.{Policy}
@@ -12,7 +13,7 @@ use Rattle.tool_runs.specs.declared.output.ending.Style.TheVariants.{Lines}
 use Rattle.tool_runs.specs.declared.output.stop.Stop.{Stop}
 use Rattle.tool_runs.specs.output.Outputs.{Output, Refusal, ◌>>=◌, after_pieces, ended_as}
 use Rattle.tool_runs.specs.output.Runs.{Leads, Steps}
-use Rattle.tool_runs.proofs.OfOutput.Turning.{turn_stops}
+use Rattle.tool_runs.proofs.OfOutput.Turning.{stop_on}
 use Rattle.tool_runs.specs.declared.output.ending.Style.{Style}
 use Rattle.idl_types.specs.State as idl_types
 use Rattle.tool_types.specs.Types.{Declared, types, Declaration, declare, declared_by}
@@ -22,7 +23,7 @@ use Rattle.tool_types.specs.declared.declaring.Declared.{Declared as Record}
 use Rattle.tool_verdicts.specs.Versions as spec
 use Rattle.tool_verdicts.specs.Versions.{Finding, any_breaks, behind, between, breaks, ending_of, finding_line, findings, telling, versions}
 use Rattle.tool_verdicts.specs.Reports.{lines_of, version_view}
-use Rattle.tool_commands.specs.Comparing.{behind_last, next_findings, remaining}
+use Rattle.tool_commands.specs.Comparing.{behind_last, next_findings, remaining, telling_on}
 use Rattle.tool_commands.specs.declared.comparing.Progress.{Progress}
 
 -- ---- lines
@@ -54,6 +55,12 @@ told_first broke fs rest =
 -- nothing was written
 pub leads_nowhere : (output : Output) (now : Option (List ℕ)) → Leads (Some output) (Some output) now now
 leads_nowhere output now = ([], refl, Appends-nil now)
+
+-- a stop that is handed on to the caller
+pub hands_on : (A B : Type 0) (style : Style) (output rest : Option Output) (more : Result B Stop → Option Output) (stop : Stop) (result : Result B Stop) (old new : Option (List ℕ)) → IsErrAnd result (λ e. e ≡ stop)
+    → Steps {T = A} style output rest (Err stop) old new → Steps {T = B} style output (more result) result old new
+hands_on A B style output rest more stop (Ok b) old new same steps = absurd same
+hands_on A B style output rest more stop (Err e) old new same steps = rw same (stop_on A B style output rest (more (Err stop)) stop old new steps)
 
 -- ---- the end
 
@@ -102,11 +109,10 @@ version_told q r broke now_broke breaks_now v w last rest old new is breaks_are 
     let ends = both ∙ ap (λ b. broke || b) breaks_are in
     subst (λ (o : Output). Leads (Some o) (Some (telling now_broke rest)) old new) (sym (told_behind q r broke v w last rest is)) (subst (λ (b : Bool). Leads (Some (told_of q r broke v w rest)) (Some (telling b rest)) old new) (sym ends) lead)
 
-pub version_stops : (q : Policy) (r : Rep) (broke : Bool) (v w : spec.Version) (last : Option spec.Version) (rest : List Finding) (stop : Stop) (old new : Option (List ℕ)) → last ≡ Some v → Steps {T = Unit {0}} Lines (Some (told_of q r broke v w rest)) (Some (telling (broke || any_breaks (between q r v w)) rest)) (Err stop) old new
-    → Steps {T = Bool} Lines (Some (telling broke (next_findings q r last w ++ rest))) None (Err stop) old new
-version_stops q r broke v w last rest stop old new is steps =
-    let first = told_of q r broke v w rest in
-    subst (λ (o : Output). Steps {T = Bool} Lines (Some o) None (Err stop) old new) (sym (told_behind q r broke v w last rest is)) (turn_stops (Unit {0}) Bool Lines (Some first) (Some first) (Some (telling (broke || any_breaks (between q r v w)) rest)) None stop old old new (leads_nowhere first old) steps)
+pub version_stops : (q : Policy) (r : Rep) (broke : Bool) (v w : spec.Version) (last : Option spec.Version) (rest : List Finding) (stop : Stop) (result : Result Bool Stop) (old new : Option (List ℕ)) → last ≡ Some v → IsErrAnd result (λ e. e ≡ stop) → Steps {T = Unit {0}} Lines (Some (told_of q r broke v w rest)) (Some (telling (broke || any_breaks (between q r v w)) rest)) (Err stop) old new
+    → Steps {T = Bool} Lines (Some (telling broke (next_findings q r last w ++ rest))) (telling_on rest result) result old new
+version_stops q r broke v w last rest stop result old new is same steps =
+    subst (λ (o : Output). Steps {T = Bool} Lines (Some o) (telling_on rest result) result old new) (sym (told_behind q r broke v w last rest is)) (hands_on (Unit {0}) Bool Lines (Some (told_of q r broke v w rest)) (Some (telling (broke || any_breaks (between q r v w)) rest)) (telling_on rest) stop result old new same steps)
 
 -- ---- a record
 
@@ -115,9 +121,6 @@ pub record_told : (q : Policy) (r : Rep) (p : Progress) (k : ℕ) (d : Declared)
     → remaining q r p k (d ∷ rest) ≡ telling p.broke (next_findings q r (option_map version_view p.older) (record { number = k; types = ts }) ++ behind_last q r (Some (record { number = k; types = ts })) (versions (k + 1) rest))
 record_told q r p k d ts rest is =
     ap (λ (x : Declared). remaining q r p k (x ∷ rest)) is ∙ ap (λ (fs : List Finding). telling p.broke fs) (version_on q r (option_map version_view p.older) (record { number = k; types = ts }) (versions (k + 1) rest))
-
-pub stops_told : (style : Style) (output : Output) (stop : Stop) (old new : Option (List ℕ)) → Steps {T = Bool} style (Some output) None (Err stop) old new → Steps {T = Progress} style (Some output) None (Err stop) old new
-stops_told style output stop old new steps = turn_stops Bool Progress style (Some output) (Some output) None None stop old old new (leads_nowhere output old) steps
 
 -- ---- as many records as were declared
 

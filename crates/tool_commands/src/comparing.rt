@@ -59,10 +59,8 @@ fn tell_version<K: Sink>(
     let Ok(report) = between(alloc, terms, pool, &older, newer) else {
         return Err(Stop::Halted(Halt::OutOfMemory));
     };
-    match say_pieces(sink, report.text.octets()) {
-        Ok(()) => Ok(either(progress.broke, report.breaks)),
-        Err(stop) => Err(stop),
-    }
+    say_pieces(sink, report.text.octets())?;
+    Ok(either(progress.broke, report.breaks))
 }
 
 // Takes the record of this number: a text is the next version, and an object is none.
@@ -91,13 +89,11 @@ fn tell_record<'a, K: Sink>(
                 types: types.as_slice(),
                 ids: ids.as_slice(),
             };
-            match tell_version(alloc, terms, pool, &progress, &newer, sink) {
-                Err(stop) => Err(stop),
-                Ok(broke) => Ok(Progress {
-                    older: Some(newer),
-                    broke,
-                }),
-            }
+            let broke = tell_version(alloc, terms, pool, &progress, &newer, sink)?;
+            Ok(Progress {
+                older: Some(newer),
+                broke,
+            })
         }
     }
 }
@@ -161,15 +157,7 @@ impl Answers for Comparing {
         ensures stops { StopsWriting (K.faults sink.old) (K.faults sink.new) result }
         ensures same { K.name sink.new ≡ K.name sink.old }
     {
-        match declare(alloc, records) {
-            Err(stop) => Err(stop),
-            Ok((declared, pool)) => compare_all(
-                alloc,
-                &self.terms,
-                declared.as_slice(),
-                &pool,
-                sink,
-            ),
-        }
+        let (declared, pool) = declare(alloc, records)?;
+        compare_all(alloc, &self.terms, declared.as_slice(), &pool, sink)
     }
 }

@@ -39,12 +39,8 @@ impl<'a> Answers for Judging<'a> {
         ensures stops { StopsWriting (K.faults sink.old) (K.faults sink.new) result }
         ensures same { K.name sink.new ≡ K.name sink.old }
     {
-        match reader_type(alloc, &self.pair, records) {
-            Err(stop) => Err(stop),
-            Ok(_) => match say_pieces(sink, b"yes\n") {
-                Err(stop) => Err(stop),
-                Ok(()) => Ok(Ending::Done),
-            },
-        }
+        reader_type(alloc, &self.pair, records)?;
+        say_pieces(sink, b"yes\n")?;
+        Ok(Ending::Done)
     }
 }

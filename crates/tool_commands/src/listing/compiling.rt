@@ -164,12 +164,8 @@ impl Answers for Compiling {
         sink: &mut K,
     ) -> Result<Ending, Stop> {
         front_has_compiled();
-        match declare(alloc, records) {
-            Err(stop) => Err(stop),
-            Ok((declared, pool)) => match compile_all(alloc, declared.as_slice(), &pool, sink) {
-                Err(stop) => Err(stop),
-                Ok(()) => Ok(Ending::Done),
-            },
-        }
+        let (declared, pool) = declare(alloc, records)?;
+        compile_all(alloc, declared.as_slice(), &pool, sink)?;
+        Ok(Ending::Done)
     }
 }

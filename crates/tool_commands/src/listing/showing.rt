@@ -136,12 +136,8 @@ impl Answers for Showing {
         records: &[Item],
         sink: &mut K,
     ) -> Result<Ending, Stop> {
-        match declare(alloc, records) {
-            Err(stop) => Err(stop),
-            Ok((declared, _)) => match show_all(alloc, declared.as_slice(), sink) {
-                Err(stop) => Err(stop),
-                Ok(()) => Ok(Ending::Done),
-            },
-        }
+        let (declared, _) = declare(alloc, records)?;
+        show_all(alloc, declared.as_slice(), sink)?;
+        Ok(Ending::Done)
     }
 }

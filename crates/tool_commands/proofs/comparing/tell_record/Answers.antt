@@ -7,30 +7,31 @@ use Rattle.tool_runs.specs.output.Runs.{Leads, Steps}
 use Rattle.tool_types.specs.Declaring.{declared_view}
 use Rattle.tool_types.specs.Types.{types}
 use Rattle.tool_verdicts.specs.Versions.{versions}
-use Rattle.tool_commands.specs.Comparing.{behind_last, remaining}
+use Rattle.tool_commands.specs.Comparing.{behind_last, remaining, remaining_on}
 use Rattle.tool_commands.specs.declared.comparing.Progress.{Progress}
-use Rattle.tool_commands.proofs.Told.{record_told, stops_told}
+use Rattle.tool_commands.proofs.Told.{hands_on, record_told}
 use Rattle.tool_commands.proofs.comparing.tell_record.Goals as goal
 
-pub returns-in-Ok-clause-steps : goal.returns-in-Ok-clause-steps
-returns-in-Ok-clause-steps g c rest =
+pub returns-in_ok-broke-in-Types-clause-steps : goal.returns-in_ok-broke-in-Types-clause-steps
+returns-in_ok-broke-in-Types-clause-steps g c rest =
     let q = c.args.terms.now.policy in
     let r = c.args.terms.now.rep in
     let k = c.args.number in
     let ts = declared c.as_slice.result.now in
     let is : declared_view c.args.declared.now ≡ types ts = ap declared_view c.in-Types.is ∙ ap (λ (l : List Named). types (declared l)) (sym c.as_slice.ensures) in
-    let now : Progress = record { older = Some (record { number = k; types = c.as_slice.result; ids = c.as_slice-in-Types.result }); broke = c.in-Ok.broke } in
-    subst (λ (o : Output). Leads (Some o) (Some (remaining q r now (k + 1) rest)) (g.K.Sink.taken c.args.sink.now) (g.K.Sink.taken c.tell_version.new.sink)) (sym (record_told q r c.args.progress k (declared_view c.args.declared.now) ts rest is)) (c.in-Ok.ensures.steps (behind_last q r (Some (record { number = k; types = ts })) (versions (k + 1) rest)))
+    let now : Progress = record { older = Some (record { number = k; types = c.as_slice.result; ids = c.as_slice-in-Types.result }); broke = c.in_ok-broke-in-Types.broke } in
+    subst (λ (o : Output). Leads (Some o) (Some (remaining q r now (k + 1) rest)) (g.K.Sink.taken c.args.sink.now) (g.K.Sink.taken c.tell_version.new.sink)) (sym (record_told q r c.args.progress k (declared_view c.args.declared.now) ts rest is)) (c.in_ok-broke-in-Types.ensures.steps (behind_last q r (Some (record { number = k; types = ts })) (versions (k + 1) rest)))
 
-pub returns-in-Err-clause-steps : goal.returns-in-Err-clause-steps
-returns-in-Err-clause-steps g c rest =
+pub returns-in_err-broke-in-Types-clause-steps : goal.returns-in_err-broke-in-Types-clause-steps
+returns-in_err-broke-in-Types-clause-steps g c rest =
     let q = c.args.terms.now.policy in
     let r = c.args.terms.now.rep in
     let k = c.args.number in
     let ts = declared c.as_slice.result.now in
+    let stop = c.in_err-broke-in-Types.field-0.0 in
     let old = g.K.Sink.taken c.args.sink.now in
     let new = g.K.Sink.taken c.tell_version.new.sink in
     let is : declared_view c.args.declared.now ≡ types ts = ap declared_view c.in-Types.is ∙ ap (λ (l : List Named). types (declared l)) (sym c.as_slice.ensures) in
     let first = remaining q r c.args.progress k (declared_view c.args.declared.now ∷ rest) in
-    let steps = subst (λ (o : Output). Steps {T = Bool} Lines (Some o) None (Err c.in-Err.stop) old new) (sym (record_told q r c.args.progress k (declared_view c.args.declared.now) ts rest is)) (c.in-Err.ensures.steps (behind_last q r (Some (record { number = k; types = ts })) (versions (k + 1) rest))) in
-    stops_told Lines first c.in-Err.stop old new steps
+    let steps = subst (λ (o : Output). Steps {T = Bool} Lines (Some o) None (Err stop) old new) (sym (record_told q r c.args.progress k (declared_view c.args.declared.now) ts rest is)) (c.in_err-broke-in-Types.ensures.steps (behind_last q r (Some (record { number = k; types = ts })) (versions (k + 1) rest))) in
+    hands_on Bool Progress Lines (Some first) None (remaining_on c.args.terms.now (k + 1) rest) stop c.from_residual.result old new c.from_residual.ensures.1 steps
