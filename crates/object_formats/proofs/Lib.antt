@@ -5,3 +5,4 @@ pub mod Tables
 pub mod Whole
 pub mod Views
 pub mod OwnKinds
+pub mod Good

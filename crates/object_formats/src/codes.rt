@@ -44,6 +44,13 @@ pub fn own_kind(complete: bool) -> u8
     if complete { 0xF2 } else { 0xF1 }
 }
 
+/// What says of which kind the hashes in a collection are: 0xF3 where there are none.
+pub fn ek_of(complete: bool, plain: bool) -> u8
+    ensures { result ≡ spec.ek_of complete plain }
+{
+    if plain { 0xF3 } else { own_kind(complete) }
+}
+
 /// Whether an array with these dimensions has the large form.
 pub fn any_large(dims: &[u32]) -> bool
     ensures { result ≡ spec.any_large dims.now }

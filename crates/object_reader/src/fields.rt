@@ -1,46 +1,14 @@
 ghost use Rattle.std.specs.Prelude.{◌≡◌, IfOk, ◌++◌, ◌∷◌, []};
 ghost use Rattle.object_formats.specs.declared.faults.ObjectRule.TheVariants.{Annotation};
-ghost use Rattle.object_formats.specs.Format.{text, has_nul, ended, exactly};
-ghost use Rattle.object_formats.specs.Tables.{allowed, flags_of, no_flags, no_annotations, name, detail, closing, signed, extends};
+ghost use Rattle.object_formats.specs.Format.{text, ended, exactly};
+ghost use Rattle.object_formats.specs.Tables.{allowed, flags_of, no_flags, no_annotations, name, detail, closing, signed};
 ghost use Rattle.object_reader.specs.Reading.{Reads, ahead};
 
 use crate::reader::Reader;
-use object_formats::{Flags, ObjectFault, ObjectRule};
+use object_formats::{Flags, ObjectFault, ObjectRule, allows, has_nul};
 use std::alloc::Global;
 use type_trees::Name;
 use xt_lists::{OutOfMemory, Text};
-
-/// Whether such flags may be set there.
-#[tactic(auto, unfolding(object_formats::specs::Tables::type_flags, object_formats::specs::Tables::member_flags, object_formats::specs::Tables::case_flags, object_formats::specs::Tables::disc_flags, object_formats::specs::Tables::literal_flags))]
-pub(crate) fn allows(complete: bool, kind: Flags, flags: u16) -> bool
-    ensures { result ≡ allowed complete kind flags }
-{
-    match kind {
-        Flags::Element => 0 < flags && flags < 4,
-        Flags::Literal => flags == 0 || flags == 0x40,
-        Flags::Member => 0 < flags % 8 && flags % 8 < 4 && flags < 0x40,
-        Flags::Case => 0 < flags % 0x40 && flags % 0x40 < 4 && flags < 0x80,
-        Flags::Discriminator => flags == 1 || flags == 0x21,
-        Flags::Type => extends(flags % 8) && flags < if complete { 0x20 } else { 8 },
-    }
-}
-
-fn extends(flags: u16) -> bool
-    ensures { result ≡ extends flags }
-{
-    flags == 1 || flags == 2 || flags == 4
-}
-
-fn has_nul(octets: &[u8]) -> bool
-    ensures { result ≡ has_nul octets.now }
-{
-    for octet in octets {
-        if *octet == 0 {
-            return true;
-        }
-    }
-    false
-}
 
 /// The text before the NUL that ends these octets, where it is their only one.
 #[tactic(auto, using(object_formats::proofs::Texts::ended_again, crate::proofs::Ends::ended_nul, crate::proofs::Ends::ended_open, crate::proofs::Ends::ended_none))]

@@ -10,7 +10,7 @@ ghost use Rattle.object_reader.specs.Reading.{Reads, ahead};
 
 use crate::reader::{Reader, boxed};
 use object_formats::{
-    Code, Flags, ObjectFault, ObjectRule, TypeIdentifier, any_large, is_plain, own_kind,
+    Code, Flags, ObjectFault, ObjectRule, TypeIdentifier, any_large, ek_of, is_plain, own_kind,
 };
 use std::alloc::Global;
 use type_trees::HashId;
@@ -51,13 +51,6 @@ fn code_of(complete: bool, octet: u8) -> Option<Code>
             }
         }
     }
-}
-
-/// What says of which kind the hashes in a collection are: 0xF3 where there are none.
-pub fn ek_of(complete: bool, plain: bool) -> u8
-    ensures { result ≡ spec.ek_of complete plain }
-{
-    if plain { 0xF3 } else { own_kind(complete) }
 }
 
 impl<'a> Reader<'a> {

@@ -9,4 +9,3 @@ mod parts;
 mod reader;
 
 pub use bodies::read_object;
-pub use identifiers::ek_of;

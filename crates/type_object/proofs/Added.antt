@@ -1,6 +1,6 @@
 -- What becomes of a text, from whether it is an object's and from what the pool has under its identifier.
-use Rattle.std.proofs.Common.{◌≡◌, ℕ, List, [], ◌∷◌, ◌++◌, Result, Ok, Err, ap, ◌∙◌}
-use Rattle.std.specs.Prelude.{IfOk, IfErr, OnOk}
+use Rattle.std.proofs.Common.{◌≡◌, ℕ, List, [], ◌∷◌, ◌++◌, Result, Ok, Err, ap, subst, ◌∙◌}
+use Rattle.std.specs.Prelude.{IfOk}
 use Rattle.type_trees.specs.declared.types.HashId.{HashId}
 use Rattle.object_formats.specs.declared.faults.Fault.{Fault}
 use Rattle.object_formats.specs.Objects.{Object}
@@ -31,14 +31,10 @@ refused fault pool bs e = refused_so fault pool bs (object_of bs) e
 
 -- ---- what a call answered
 
-pub on_ok : {X E P : Type 0} (result : Result X E) → P → OnOk result P
-on_ok (Ok x) p = p
-on_ok (Err e) p = tt
+put_so : (result : Result HashId PoolFault) (pool new : Texts) (bs : List ℕ) (id : HashId) → IfOk result (λ i. (i ≡ id) × (new ≡ pool ++ (id, bs) ∷ [])) → IsObject bs → id ≡ named bs → put pool id bs (found id pool) ≡ Ok (id, pool ++ (id, bs) ∷ []) → IfOk result (λ i. added pool bs ≡ Ok (i, new))
+put_so (Ok i) pool new bs id e is name d = added_is pool bs id (Ok (i, new)) is name (let same = e.0 in let put_last = e.1 in cc)
+put_so (Err f) pool new bs id e is name d = tt
 
-pub put_in : (result : Result HashId PoolFault) (pool new : Texts) (bs : List ℕ) (id : HashId) → IfOk result (λ i. (i ≡ id) × (new ≡ pool ++ (id, bs) ∷ [])) → OnOk result (IsObject bs) → id ≡ named bs → put pool id bs (found id pool) ≡ Ok (id, pool ++ (id, bs) ∷ []) → IfOk result (λ i. added pool bs ≡ Ok (i, new))
-put_in (Ok i) pool new bs id e is name d = added_is pool bs id (Ok (i, new)) is name (let same = e.0 in let put_last = e.1 in cc)
-put_in (Err f) pool new bs id e is name d = tt
-
-pub not_put : (result : Result HashId PoolFault) (pool : Texts) (bs : List ℕ) → IfErr result (λ fault. Refuses fault (refused_if (object_of bs))) → IfErr result (λ fault. Refuses fault (added pool bs))
-not_put (Ok i) pool bs e = tt
-not_put (Err f) pool bs e = refused f pool bs e
+-- a text with the octets that were asked about was put in
+pub put_in : (result : Result HashId PoolFault) (pool new : Texts) (text bs : List ℕ) (id : HashId) → text ≡ bs → IfOk result (λ i. (i ≡ id) × (new ≡ pool ++ (id, text) ∷ [])) → IsObject text → id ≡ named bs → put pool id bs (found id pool) ≡ Ok (id, pool ++ (id, bs) ∷ []) → IfOk result (λ i. added pool bs ≡ Ok (i, new))
+put_in result pool new text bs id same e is name d = put_so result pool new bs id (subst (λ t. IfOk result (λ i. (i ≡ id) × (new ≡ pool ++ (id, t) ∷ []))) same e) (subst IsObject same is) name d

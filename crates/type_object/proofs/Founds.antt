@@ -1,5 +1,5 @@
 -- A lookup by key is a lookup by identifier.
-use Rattle.std.proofs.Common.{◌≡◌, ℕ, Bool, true, false, cond, List, [], ◌∷◌, map, Option, Some, None, refl, sym, ap, ◌∙◌}
+use Rattle.std.proofs.Common.{◌≡◌, ◌≤◌, ℕ, length, Bool, true, false, cond, List, [], ◌∷◌, map, Option, Some, None, refl, sym, ap, ◌∙◌}
 use Rattle.std.specs.Option.{option_map}
 use Rattle.std.specs.Prelude.{◌++◌, Ok}
 use Rattle.std.specs.Map.{lookup}
@@ -7,7 +7,8 @@ use Rattle.std.proofs.lemmas.List.{map_push}
 use Rattle.indexmap.specs.IndexMap.{IndexMap, get, insert_entry}
 use Rattle.indexmap.proofs.CallerLemmas.{insert_entry-new}
 use Rattle.object_formats.specs.View as view
-use Rattle.object_formats.specs.Tables.{object_of}
+use Rattle.object_formats.specs.Objects.{Object}
+use Rattle.object_formats.specs.Tables.{object_of, text_of, is_well_formed}
 use Rattle.object_formats.proofs.Whole.{again}
 use Rattle.type_trees.specs.contracts.types.HashIdPartialEq.TheImpl as keys
 use Rattle.type_trees.specs.declared.types.HashId.{HashId}
@@ -37,6 +38,9 @@ found_none k es h = found_is k es ∙ ap (option_map (λ (x : Entry). x.octets))
 absent_is : (o : Option Entry) → option_map (λ (x : Entry). x.octets) o ≡ None → o ≡ None
 absent_is None e = refl
 absent_is (Some x) e = absurd cc
+
+pub text_is_object : (o : Object) (bs : List ℕ) → bs ≡ text_of o → is_well_formed o ≡ true → length bs ≤ 131072 → IsObject bs
+text_is_object o bs text good short = record { object = o; read = again o bs text good short }
 
 pub entry_read : (e : Entry) → object_of e.octets ≡ Ok (view.object e.object)
 entry_read e = again (view.object e.object) e.octets e.text e.well_formed e.short

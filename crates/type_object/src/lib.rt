@@ -12,8 +12,8 @@ pub use gathering::{references, row_of};
 pub use identifiers::{hash_of, kind_of, named};
 pub use object_formats::{
     Fault, ObjectCase, ObjectFault, ObjectFlag, ObjectLiteral, ObjectMember, ObjectRule,
-    TypeIdentifier, TypeObject, is_complete,
+    TypeIdentifier, TypeObject, ek_of, is_complete,
 };
-pub use object_reader::{ek_of, read_object};
+pub use object_reader::read_object;
 pub use object_writer::write_object;
 pub use pool::{Pool, PoolEntry, PoolFault};

@@ -1,6 +1,6 @@
-ghost use Rattle.std.specs.Prelude.{[], ◌∷◌, ◌++◌, ◌≡◌, ◌<◌, length, None, Some, IfOk, IfErr, IfSome, OnOk, OnErr, map, slice_get, true, Ok};
+ghost use Rattle.std.specs.Prelude.{[], ◌∷◌, ◌++◌, ◌≡◌, ◌<◌, ◌≤◌, ◌&&◌, nat_le, length, None, Some, IfOk, IfErr, IfSome, OnOk, OnErr, map, slice_get, true, Ok};
 ghost use Rattle.std.specs.Option.{option_map};
-ghost use Rattle.object_formats.specs.Tables.{object_of, is_well_formed};
+ghost use Rattle.object_formats.specs.Tables.{object_of, text_of, is_well_formed};
 ghost use Rattle.object_formats.specs.View as view;
 ghost use Rattle.type_object.specs.Entries.{held};
 ghost use Rattle.type_object.specs.Faults.{Decides, Refuses, PassesOn, refused_if};
@@ -11,7 +11,7 @@ ghost use Rattle.type_object.specs.Pools.{IsObject, IsPool};
 use crate::entry::{Entry, Placed};
 use crate::identifiers::named;
 use indexmap::IndexMap;
-use object_formats::{Fault, ObjectFault, TypeObject};
+use object_formats::{Fault, ObjectFault, TypeObject, is_well_formed};
 use object_reader::read_object;
 use std::alloc::Global;
 use std::marker::Model;
@@ -20,6 +20,9 @@ use type_trees::HashId;
 use xt_lists::{OutOfMemory, Text};
 
 const MOST: usize = 4_096;
+
+/// The most octets of a text.
+const LONGEST: usize = 131_072;
 
 /// Objects by their identifiers, at most 4,096, in the order in which they came. A look-up goes by the identifier's hash.
 #[derive(Drop)]
@@ -147,7 +150,40 @@ impl Pool {
         ensures unchanged { OnErr result (self.new ≡ self.old) }
     {
         let id = named(octets);
+        let placed = self.placed(&id, octets);
+        self.add_text(id, placed, octets)
+    }
+
+    /// Adds an object that was made, with its text, as `add` adds the text. Where the text is new, there is room for it, the object is well
+    /// formed, and the text has at most 131,072 octets, the object is kept as it is: the text isn't read, since it would be read as that
+    /// object. The faults are those of `add`; a refused call changes nothing.
+    pub fn add_made(&mut self, object: TypeObject, text: Text) -> Result<HashId, PoolFault>
+        requires { text ≡ text_of (view.object object) }
+        ensures ok { IfOk result (λ id. spec.added self.old text ≡ Ok (id, self.new)) }
+        ensures own { IfOk result (λ id. id ≡ names.named text) }
+        ensures read { OnOk result (IsObject text) }
+        ensures err { IfErr result (λ fault. Refuses fault (spec.added self.old text)) }
+        ensures unchanged { OnErr result (self.new ≡ self.old) }
+    {
+        let octets = text.octets();
+        let id = named(octets);
         match self.placed(&id, octets) {
+            Placed::Free if is_read_again(&object, octets) => self.insert(id, text, object),
+            placed => self.add_text(id, placed, octets),
+        }
+    }
+
+    /// Adds the object of a text that isn't read yet, where it was seen what becomes of the text.
+    fn add_text(&mut self, id: HashId, placed: Placed, octets: &[u8]) -> Result<HashId, PoolFault>
+        requires own { id ≡ names.named octets.now }
+        requires placed { Decides placed self.old id octets.now }
+        ensures ok { IfOk result (λ id. spec.added self.old octets.now ≡ Ok (id, self.new)) }
+        ensures own { IfOk result (λ id. id ≡ names.named octets.now) }
+        ensures read { OnOk result (IsObject octets.now) }
+        ensures err { IfErr result (λ fault. Refuses fault (spec.added self.old octets.now)) }
+        ensures unchanged { OnErr result (self.new ≡ self.old) }
+    {
+        match placed {
             Placed::Present => Ok(id),
             Placed::Clash => {
                 expect_object(self.alloc, octets)?;
@@ -157,21 +193,31 @@ impl Pool {
                 expect_object(self.alloc, octets)?;
                 Err(PoolFault::Full)
             }
-            Placed::Free => self.insert(id, octets),
+            Placed::Free => {
+                let object = object_in(self.alloc, octets)?;
+                let text = copied(self.alloc, octets)?;
+                self.insert(id, text, object)
+            }
         }
     }
 
-    /// Adds a text that isn't there, where there is room.
-    fn insert(&mut self, id: HashId, octets: &[u8]) -> Result<HashId, PoolFault>
-        requires own { id ≡ names.named octets.now }
+    /// Adds an object with its text, which isn't there, where there is room.
+    fn insert(&mut self, id: HashId, text: Text, object: TypeObject) -> Result<HashId, PoolFault>
+        requires own { id ≡ names.named text }
         requires absent { spec.found id self.old ≡ None }
         requires room { length self.old < 4096 }
-        ensures ok { IfOk result (λ i. (i ≡ id) × (self.new ≡ self.old ++ (id, octets.now) ∷ [])) }
-        ensures err { IfErr result (λ fault. Refuses fault (refused_if (object_of octets.now))) }
-        ensures read { OnOk result (IsObject octets.now) }
+        requires text { text ≡ text_of (view.object object) }
+        requires well_formed { is_well_formed (view.object object) ≡ true }
+        requires short { length text ≤ 131072 }
+        ensures ok { IfOk result (λ i. (i ≡ id) × (self.new ≡ self.old ++ (id, text) ∷ [])) }
+        ensures err { IfErr result (λ fault. fault ≡ PoolFault.OutOfMemory) }
+        ensures read { IsObject text }
         ensures unchanged { OnErr result (self.new ≡ self.old) }
     {
-        let entry = entry_of(self.alloc, octets)?;
+        let entry = Entry {
+            octets: text,
+            object,
+        };
         match store(&mut self.entries, id, entry) {
             Ok(()) => Ok(id),
             Err(_) => Err(PoolFault::OutOfMemory),
@@ -199,20 +245,35 @@ fn expect_object(alloc: Global, octets: &[u8]) -> Result<(), PoolFault>
     }
 }
 
-fn entry_of(alloc: Global, octets: &[u8]) -> Result<Entry, PoolFault>
-    ensures ok { IfOk result (λ entry. entry.octets ≡ octets.now) }
+/// The object of a text.
+fn object_in(alloc: Global, octets: &[u8]) -> Result<TypeObject, PoolFault>
+    ensures text { IfOk result (λ object. octets.now ≡ text_of (view.object object)) }
+    ensures well_formed { IfOk result (λ object. is_well_formed (view.object object) ≡ true) }
+    ensures short { OnOk result (length octets.now ≤ 131072) }
     ensures err { IfErr result (λ fault. Refuses fault (refused_if (object_of octets.now))) }
 {
-    let Ok(text) = Text::from_octets(alloc, octets) else {
-        return Err(PoolFault::OutOfMemory);
-    };
     match read_object(alloc, octets) {
-        Ok(object) => Ok(Entry {
-            octets: text,
-            object,
-        }),
+        Ok(object) => Ok(object),
         Err(fault) => Err(refused(fault)),
     }
+}
+
+/// A text of these octets.
+fn copied(alloc: Global, octets: &[u8]) -> Result<Text, PoolFault>
+    ensures ok { IfOk result (λ text. text ≡ octets.now) }
+    ensures err { IfErr result (λ fault. fault ≡ PoolFault.OutOfMemory) }
+{
+    match Text::from_octets(alloc, octets) {
+        Ok(text) => Ok(text),
+        Err(_) => Err(PoolFault::OutOfMemory),
+    }
+}
+
+/// Whether an object's text is read as that object.
+fn is_read_again(object: &TypeObject, octets: &[u8]) -> bool
+    ensures { result ≡ (nat_le (length octets.now) 131072 && is_well_formed (view.object object.now)) }
+{
+    octets.len() <= LONGEST && is_well_formed(object)
 }
 
 fn refused(fault: ObjectFault) -> PoolFault
