@@ -16,9 +16,10 @@ use idl_laws::parsed::parsed_is_printable;
 use object_formats::TypeObject;
 use resolve_laws::parsed::parsed_has_objects;
 use std::alloc::Global;
+use std::mem;
 use tool_runs::output::{Halt, Stop};
 use type_object::Pool;
-use type_resolve::{Identifiers, objects_of};
+use type_resolve::{Identifiers, Making};
 use type_trees::{HashId, Named};
 use xt_idl::parse;
 use xt_io::{Item, Kind};
@@ -38,6 +39,27 @@ pub enum Declared {
 }
 
 // Adds the objects of types, one type after another, and gives the identifiers.
+fn add_each<'a>(
+    alloc: Global,
+    number: u32,
+    types: &'a [Named],
+    making: &mut Making<'a>,
+) -> Result<Row<Identifiers>, Stop>
+    requires { AreGood types.now }
+    ensures joins { Joins (spec.with_objects number making.old (idl_types.declared types.now)) result making.new }
+    ensures identified { IfOk result (AreIdentified types.now) }
+{
+    let mut ids = Row::new(alloc);
+    for named in types {
+        match making.add_type(alloc, named) {
+            Ok(found) => ids.push(found)?,
+            Err(fault) => return Err(refuse_pool(alloc, number, fault)),
+        }
+    }
+    Ok(ids)
+}
+
+// The same, where no type is made twice.
 fn with_objects(
     alloc: Global,
     number: u32,
@@ -48,14 +70,10 @@ fn with_objects(
     ensures joins { Joins (spec.with_objects number pool.old (idl_types.declared types.now)) result pool.new }
     ensures identified { IfOk result (AreIdentified types.now) }
 {
-    let mut ids = Row::new(alloc);
-    for named in types {
-        match objects_of(alloc, named, pool) {
-            Ok(found) => ids.push(found)?,
-            Err(fault) => return Err(refuse_pool(alloc, number, fault)),
-        }
-    }
-    Ok(ids)
+    let mut making = Making::new(alloc, mem::replace(pool, Pool::new(alloc)));
+    let ids = add_each(alloc, number, types, &mut making);
+    *pool = making.take(alloc);
+    ids
 }
 
 fn declare_text(alloc: Global, number: u32, text: &[u8], pool: &mut Pool) -> Result<Declared, Stop>

@@ -23,27 +23,24 @@ pub(crate) fn made<T>(what: Result<T, OutOfMemory>) -> Result<T, PoolFault>
     }
 }
 
-/// Adds an object's text, and gives its identifier.
+/// Adds an object with its text, and gives its identifier.
 #[tactic(auto, using(crate::proofs::Added::added_rules))]
-fn add_object(
-    alloc: Global,
-    object: &TypeObject,
-    pool: &mut Making<'_>,
-) -> Result<HashId, PoolFault>
-    ensures { Stores itself result pool.old (text_of (view.object object.now) ∷ []) pool.new (named (text_of (view.object object.now))) }
+fn add_object(alloc: Global, object: TypeObject, pool: &mut Making<'_>) -> Result<HashId, PoolFault>
+    ensures { Stores itself result pool.old (text_of (view.object object) ∷ []) pool.new (named (text_of (view.object object))) }
 {
-    let Ok(text) = write_object(alloc, object) else {
+    let Ok(text) = write_object(alloc, &object) else {
         return Err(PoolFault::OutOfMemory);
     };
-    pool.add(text.octets())
+    pool.add_made(object, text)
 }
 
 /// Adds the minimal object, and then the complete one.
-fn add_pair(alloc: Global, pair: &Pair, pool: &mut Making<'_>) -> Result<Identifiers, PoolFault>
-    ensures { Stores itself result pool.old (form_texts (forms pair.now)) pool.new (form_ids (forms pair.now)) }
+fn add_pair(alloc: Global, pair: Pair, pool: &mut Making<'_>) -> Result<Identifiers, PoolFault>
+    ensures { Stores itself result pool.old (form_texts (forms pair)) pool.new (form_ids (forms pair)) }
 {
-    let minimal = add_object(alloc, &pair.minimal, pool)?;
-    let complete = add_object(alloc, &pair.complete, pool)?;
+    let Pair { minimal, complete } = pair;
+    let minimal = add_object(alloc, minimal, pool)?;
+    let complete = add_object(alloc, complete, pool)?;
     Ok(Identifiers { minimal, complete })
 }
 
@@ -56,7 +53,7 @@ pub(crate) fn add_made(
     ensures { AddsMade pair result pool.old pool.new }
 {
     match pair {
-        Ok(pair) => add_pair(alloc, &pair, pool),
+        Ok(pair) => add_pair(alloc, pair, pool),
         Err(_) => Err(PoolFault::OutOfMemory),
     }
 }

@@ -25,9 +25,9 @@ pub fn has_objects(ty: &XType) -> bool
     }
 }
 
-/// Adds the objects of a type as `objects_of` does.
+/// Makes the objects of a type and adds them as `objects_of` does.
 #[tactic(auto, using(type_trees::proofs::Views::tree_rules))]
-fn add_objects<'a>(
+fn made_objects<'a>(
     alloc: Global,
     ty: &'a XType,
     pool: &mut Making<'a>,
@@ -44,6 +44,40 @@ fn add_objects<'a>(
         XType::Prim(_) | XType::Str(_) | XType::Seq(_) | XType::Array(_) | XType::Map(_) => {
             unreachable!()
         }
+    }
+}
+
+/// Adds the objects of a type as `objects_of` does, unless it is known that they were added.
+fn add_objects<'a>(
+    alloc: Global,
+    ty: &'a XType,
+    pool: &mut Making<'a>,
+) -> Result<Identifiers, PoolFault>
+    requires { spec.has_objects (tree ty.now) ≡ true }
+    ensures { Stores hashes_seen result pool.old (spec.texts (tree ty.now)) pool.new (sides (tree ty.now)) }
+{
+    if let Some(ids) = pool.known(ty) {
+        return Ok(ids);
+    }
+    let ids = made_objects(alloc, ty, pool)?;
+    match pool.keep(ty, ids) {
+        Ok(()) => Ok(ids),
+        Err(_) => Err(PoolFault::OutOfMemory),
+    }
+}
+
+impl<'a> Making<'a> {
+    /// Adds the objects of a type as `objects_of` does. Those of a type that has a name are not made again where it came before, by itself
+    /// or in another.
+    #[tactic(auto, using(type_trees::proofs::Views::tree_rules))]
+    pub fn add_type(&mut self, alloc: Global, named: &'a Named) -> Result<Identifiers, PoolFault>
+        requires { spec.has_objects (tree named.now.ty) ≡ true }
+        ensures added { OnOk result (Adds self.old (spec.texts (tree named.now.ty)) self.new) }
+        ensures minimal { IfOk result (λ ids. spec.identifier false (tree named.now.ty) ≡ o.hash ids.minimal) }
+        ensures complete { IfOk result (λ ids. spec.identifier true (tree named.now.ty) ≡ o.hash ids.complete) }
+        ensures halted { IfErr result (λ fault. Halts fault self.old (spec.texts (tree named.now.ty)) self.new) }
+    {
+        add_objects(alloc, &named.ty, self)
     }
 }
 
@@ -64,7 +98,7 @@ pub fn objects_of(alloc: Global, named: &Named, pool: &mut Pool) -> Result<Ident
     ensures halted { IfErr result (λ fault. Halts fault pool.old (spec.texts (tree named.now.ty)) pool.new) }
 {
     let mut making = Making::new(alloc, mem::replace(pool, Pool::new(alloc)));
-    let ids = add_objects(alloc, &named.ty, &mut making);
+    let ids = making.add_type(alloc, named);
     *pool = making.take(alloc);
     ids
 }

@@ -14,5 +14,6 @@ mod walk;
 
 pub use defining::{has_objects, objects_of};
 pub use laws::{added_are_held, objects_are_in, resolves_again};
+pub use making::Making;
 pub use object_walks::{ResolveFault, resolve};
 pub use sides::Identifiers;

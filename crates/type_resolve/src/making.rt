@@ -1,5 +1,9 @@
 ghost use Rattle.std.specs.Prelude.{◌≡◌, [], IfOk, IfErr, IfSome, OnOk, OnErr, Ok};
 ghost use Rattle.std.specs.Option.{option_map};
+ghost use Rattle.object_formats.specs.Tables.{text_of};
+ghost use Rattle.object_formats.specs.View as view;
+ghost use Rattle.type_trees.specs.Bridge.{name_number};
+ghost use Rattle.type_trees.specs.declared.types.Name.TheVariants.{Full};
 ghost use Rattle.type_trees.specs.View.{tree};
 ghost use Rattle.type_object.specs.Faults.{Refuses};
 ghost use Rattle.type_object.specs.Names.{named};
@@ -15,8 +19,8 @@ use indexmap::IndexMap;
 use std::alloc::Global;
 use std::marker::Model;
 use std::mem;
-use type_object::{Pool, PoolFault};
-use type_trees::{HashId, XType};
+use type_object::{Pool, PoolFault, TypeObject};
+use type_trees::{HashId, Name, XType, name_number};
 use type_values::same::same_type;
 use xt_lists::{OutOfMemory, Text};
 
@@ -27,19 +31,29 @@ pub(crate) struct Known<'a> {
     pub(crate) ids: Identifiers,
 }
 
-/// The name of a known type.
+/// The name of a known type, or of a member whose hash is known.
 #[derive(Debug, Clone, Copy, PartialEq, Eq, Hash)]
 struct Called<'a> {
     name: &'a [u8],
 }
 
+/// A name in full, and its hash as a number.
+#[derive(Clone, Copy)]
+pub(crate) struct Numbered<'a> {
+    name: &'a [u8],
+    number: u32,
+    ghost own: { number ≡ name_number (Full name.now) },
+}
+
 /// A pool that the objects of types are added to, and what is known of types that have a name: those of which all objects were added are
-/// found by it, so that none is made twice.
+/// found by it, so that none is made twice. Members' names are hashed once, too.
 #[derive(Drop)]
-pub(crate) struct Making<'a> {
+pub struct Making<'a> {
     pool: Pool,
     known: Vec<Known<'a>>,
     places: IndexMap<Called<'a>, usize>,
+    numbers: Vec<Numbered<'a>>,
+    number_places: IndexMap<Called<'a>, usize>,
 }
 
 impl<'a> Model for Making<'a> {
@@ -89,20 +103,33 @@ fn ids_of(known: &Known<'_>, ty: &XType) -> Option<Identifiers>
     }
 }
 
+/// The hash of the name, where it is this one.
+fn number_in(numbered: &Numbered<'_>, name: &[u8]) -> Option<u32>
+    ensures { IfSome result (λ number. number ≡ name_number (Full name.now)) }
+{
+    if numbered.name == name {
+        Some(numbered.number)
+    } else {
+        None
+    }
+}
+
 impl<'a> Making<'a> {
     /// Objects are added to this pool. It takes no memory.
-    pub(crate) fn new(alloc: Global, pool: Pool) -> Making<'a>
+    pub fn new(alloc: Global, pool: Pool) -> Making<'a>
         ensures { result ≡ pool }
     {
         Making {
             pool,
             known: Vec::new(alloc),
             places: IndexMap::new(alloc),
+            numbers: Vec::new(alloc),
+            number_places: IndexMap::new(alloc),
         }
     }
 
     /// Takes out the pool with what was added, and leaves an empty one.
-    pub(crate) fn take(&mut self, alloc: Global) -> Pool
+    pub fn take(&mut self, alloc: Global) -> Pool
         ensures taken { result ≡ self.old }
         ensures left { self.new ≡ [] }
     {
@@ -110,13 +137,14 @@ impl<'a> Making<'a> {
         mem::replace(&mut self.pool, Pool::new(alloc))
     }
 
-    /// Adds the object of a text, as `Pool::add` does.
-    pub(crate) fn add(&mut self, octets: &[u8]) -> Result<HashId, PoolFault>
-        ensures ok { IfOk result (λ id. added self.old octets.now ≡ Ok (id, self.new)) }
-        ensures err { IfErr result (λ fault. Refuses fault (added self.old octets.now)) }
+    /// Adds an object with its text, as `Pool::add_made` does.
+    pub(crate) fn add_made(&mut self, object: TypeObject, text: Text) -> Result<HashId, PoolFault>
+        requires { text ≡ text_of (view.object object) }
+        ensures ok { IfOk result (λ id. added self.old text ≡ Ok (id, self.new)) }
+        ensures err { IfErr result (λ fault. Refuses fault (added self.old text)) }
         ensures unchanged { OnErr result (self.new ≡ self.old) }
     {
-        self.pool.add(octets)
+        self.pool.add_made(object, text)
     }
 
     /// The identifiers of a type, where it is known that all its objects were added.
@@ -140,5 +168,41 @@ impl<'a> Making<'a> {
             self.known.push(Known { ty, ids })?;
         }
         Ok(())
+    }
+
+    // The hash of a name in full, where it is known.
+    fn known_number(&self, name: &'a [u8]) -> Option<u32>
+        ensures { IfSome result (λ number. number ≡ name_number (Full name.now)) }
+    {
+        let place = *self.number_places.get(&Called { name })?;
+        let numbered = self.numbers.get(place)?;
+        number_in(numbered, name)
+    }
+
+    // Keeps a hash in mind, where there is memory for it.
+    fn keep_number(&mut self, name: &'a [u8], number: u32) -> Result<(), OutOfMemory>
+        requires { number ≡ name_number (Full name.now) }
+        ensures { self.new ≡ self.old }
+    {
+        self.number_places
+            .insert(Called { name }, self.numbers.len())?;
+        self.numbers.push(Numbered { name, number })?;
+        Ok(())
+    }
+
+    /// The hash of a member's name as a number.
+    pub(crate) fn number_of(&mut self, name: &'a Name) -> u32
+        ensures number { result ≡ name_number name.now }
+        ensures same { self.new ≡ self.old }
+    {
+        let Name::Full(text) = name else {
+            return name_number(name);
+        };
+        if let Some(number) = self.known_number(text.octets()) {
+            return number;
+        }
+        let number = name_number(name);
+        let _ = self.keep_number(text.octets(), number);
+        number
     }
 }

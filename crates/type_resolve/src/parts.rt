@@ -1,5 +1,6 @@
 ghost use Rattle.std.specs.Prelude.{◌≡◌, ◌++◌, ◌∷◌, [], true, false, map, IfOk, IfErr};
 ghost use Rattle.object_formats.specs.View as view;
+ghost use Rattle.type_trees.specs.Bridge.{name_number};
 ghost use Rattle.type_trees.specs.View.{member_tree, case_tree};
 ghost use Rattle.type_resolve.specs.Objects as spec;
 ghost use Rattle.type_resolve.specs.Views.{seen, member_sides, case_sides};
@@ -60,22 +61,18 @@ pub(crate) fn flag_parts(
     Ok(row)
 }
 
+/// A member under this name.
 #[tactic(auto, using(type_trees::proofs::Views::tree_rules))]
-fn member_part(
-    alloc: Global,
-    complete: bool,
-    member: &Member,
-    ty: TypeIdentifier,
-) -> Result<ObjectMember, OutOfMemory>
-    ensures { IfOk result (λ m. view.member m ≡ spec.member_part complete (member_tree member.now).0 (view.identifier ty)) }
+fn member_part(name: Name, member: &Member, ty: TypeIdentifier) -> ObjectMember
+    ensures minimal { name ≡ spec.name_in false member.now.name → view.member result ≡ spec.member_part false (member_tree member.now).0 (view.identifier ty) }
+    ensures complete { name ≡ spec.name_in true member.now.name → view.member result ≡ spec.member_part true (member_tree member.now).0 (view.identifier ty) }
 {
-    let name = name_in(alloc, complete, &member.name)?;
-    Ok(ObjectMember {
+    ObjectMember {
         id: member.id,
         flags: member_flags(member),
         ty,
         name,
-    })
+    }
 }
 
 #[tactic(auto, using(type_trees::proofs::Views::tree_rules))]
@@ -108,21 +105,30 @@ impl MemberSides {
         }
     }
 
-    /// Appends a member with its type's identifiers.
+    /// Appends a member, the hash of whose name is this number, with its type's identifiers.
     pub(crate) fn push(
         &mut self,
         alloc: Global,
+        number: u32,
         member: &Member,
         ty: Sides,
     ) -> Result<(), PoolFault>
+        requires { number ≡ name_number member.now.name }
         ensures minimal { IfOk result (λ u. map view.member self.new.minimal ≡ map view.member self.old.minimal ++ spec.member_part false (member_tree member.now).0 (seen ty).1 ∷ []) }
         ensures complete { IfOk result (λ u. map view.member self.new.complete ≡ map view.member self.old.complete ++ spec.member_part true (member_tree member.now).0 (seen ty).2 ∷ []) }
         ensures only_memory { IfErr result (λ fault. fault ≡ PoolFault.OutOfMemory) }
     {
-        made(self.push_both(alloc, member, ty))
+        made(self.push_both(alloc, number, member, ty))
     }
 
-    fn push_both(&mut self, alloc: Global, member: &Member, ty: Sides) -> Result<(), OutOfMemory>
+    fn push_both(
+        &mut self,
+        alloc: Global,
+        number: u32,
+        member: &Member,
+        ty: Sides,
+    ) -> Result<(), OutOfMemory>
+        requires { number ≡ name_number member.now.name }
         ensures minimal { IfOk result (λ u. map view.member self.new.minimal ≡ map view.member self.old.minimal ++ spec.member_part false (member_tree member.now).0 (seen ty).1 ∷ []) }
         ensures complete { IfOk result (λ u. map view.member self.new.complete ≡ map view.member self.old.complete ++ spec.member_part true (member_tree member.now).0 (seen ty).2 ∷ []) }
     {
@@ -131,21 +137,34 @@ impl MemberSides {
             minimal,
             complete,
         } = ty;
-        push_member(&mut self.minimal, alloc, false, member, minimal)?;
-        push_member(&mut self.complete, alloc, true, member, complete)
+        push_minimal(&mut self.minimal, number, member, minimal)?;
+        push_complete(&mut self.complete, alloc, member, complete)
     }
 }
 
-fn push_member(
+fn push_minimal(
     row: &mut Row<ObjectMember>,
-    alloc: Global,
-    complete: bool,
+    number: u32,
     member: &Member,
     ty: TypeIdentifier,
 ) -> Result<(), OutOfMemory>
-    ensures { IfOk result (λ u. map view.member row.new ≡ map view.member row.old ++ spec.member_part complete (member_tree member.now).0 (view.identifier ty) ∷ []) }
+    requires { number ≡ name_number member.now.name }
+    ensures { IfOk result (λ u. map view.member row.new ≡ map view.member row.old ++ spec.member_part false (member_tree member.now).0 (view.identifier ty) ∷ []) }
 {
-    let part = member_part(alloc, complete, member, ty)?;
+    let part = member_part(Name::Hashed(number), member, ty);
+    row.push(part)
+}
+
+fn push_complete(
+    row: &mut Row<ObjectMember>,
+    alloc: Global,
+    member: &Member,
+    ty: TypeIdentifier,
+) -> Result<(), OutOfMemory>
+    ensures { IfOk result (λ u. map view.member row.new ≡ map view.member row.old ++ spec.member_part true (member_tree member.now).0 (view.identifier ty) ∷ []) }
+{
+    let name = copy_name(alloc, &member.name)?;
+    let part = member_part(name, member, ty);
     row.push(part)
 }
 

@@ -224,8 +224,9 @@ fn members<'a>(
     let own = between(members, had, count);
     let mut parts = MemberSides::new(alloc);
     for member in own {
+        let number = pool.number_of(&member.name);
         let ty = member_type(alloc, member, pool)?;
-        parts.push(alloc, member, ty)?;
+        parts.push(alloc, number, member, ty)?;
     }
     Ok(parts)
 }

@@ -96,18 +96,18 @@ members-loop-member-init t c = members_start c.args.pool.now c.between-own.resul
 pub members-returns-in_err-ty : goal.members-returns-in_err-ty
 members-returns-in_err-ty t c =
     let p = err_from_is_err_and c.from_residual.result c.from_residual.ensures.1 in
-    members_same c.from_residual.result c.args.pool.now c.member_type.new.pool c.between-own.result.now _ c.between-own.ensures (stores_err member_sides c.from_residual.result _ _ _ _ _ _ p.1 p.2 (members_end c.args.pool.now c.loop-member.pool c.between-own.result.now c.loop-member.member-index c.member-item.result (omega (arith, c.loop-member-test.true)) c.member-item.is _ c.loop-member.invariant _ _ c.in_err-ty.ensures))
+    members_same c.from_residual.result c.args.pool.now c.member_type.new.pool c.between-own.result.now _ c.between-own.ensures (stores_err member_sides c.from_residual.result _ _ _ _ _ _ p.1 p.2 (members_end c.args.pool.now c.loop-member.pool c.between-own.result.now c.loop-member.member-index c.member-item.result (omega (arith, c.loop-member-test.true)) c.member-item.is _ c.loop-member.invariant _ _ (rw c.number_of-number.ensures.same at c.in_err-ty.ensures)))
 
 pub members-returns-in_err-push : goal.members-returns-in_err-push
 members-returns-in_err-push t c =
     let r = c.from_residual-in_err-push in
     let p = err_from_is_err_and r.result r.ensures.1 in
-    members_same r.result c.args.pool.now c.member_type.new.pool c.between-own.result.now _ c.between-own.ensures (stores_err member_sides r.result _ _ _ _ _ _ p.1 p.2 (members_free c.args.pool.now c.loop-member.pool c.between-own.result.now c.loop-member.member-index c.member-item.result (omega (arith, c.loop-member-test.true)) c.member-item.is _ c.loop-member.invariant _ _ c.in_err-push.ensures.only_memory c.in_ok-ty.ensures.0))
+    members_same r.result c.args.pool.now c.member_type.new.pool c.between-own.result.now _ c.between-own.ensures (stores_err member_sides r.result _ _ _ _ _ _ p.1 p.2 (members_free c.args.pool.now c.loop-member.pool c.between-own.result.now c.loop-member.member-index c.member-item.result (omega (arith, c.loop-member-test.true)) c.member-item.is _ c.loop-member.invariant _ _ c.in_err-push.ensures.only_memory (rw c.number_of-number.ensures.same at c.in_ok-ty.ensures.0)))
 
 pub members-loop-member-preserved : goal.members-loop-member-preserved
 members-loop-member-preserved t c =
     members_on c.args.pool.now c.loop-member.pool c.between-own.result.now c.loop-member.member-index c.member-item.result (omega (arith, c.loop-member-test.true)) c.member-item.is (member_sides c.loop-member.parts) c.loop-member.invariant c.member_type.new.pool (seen c.in_ok-ty.ty) (member_sides c.push.new.self)
-    c.in_ok-ty.ensures.0 c.in_ok-ty.ensures.1 c.in_ok-push.ensures.minimal c.in_ok-push.ensures.complete
+    (rw c.number_of-number.ensures.same at c.in_ok-ty.ensures.0) c.in_ok-ty.ensures.1 c.in_ok-push.ensures.minimal c.in_ok-push.ensures.complete
 
 pub members-returns : goal.members-returns
 members-returns t c =
