@@ -15,6 +15,10 @@ use Rattle.tool_runs.specs.output.Runs.{Steps, at_number}
 abbrev pub held : Block → List ℕ
 held block = block.held.items
 
+-- how often memory was wanting for what it was to hold
+abbrev pub wanting : Block → ℕ
+wanting block = block.wanting
+
 -- what a sink took, and behind it what a block holds
 abbrev pub reached : Option (List ℕ) → List ℕ → Option (List ℕ)
 reached taken octets = append_known taken octets

@@ -1,8 +1,8 @@
 // What was written of a body and is still to be handed on.
-ghost use Rattle.std.specs.Prelude.{◌≡◌, [], IfOk, OnOk, OnErr};
+ghost use Rattle.std.specs.Prelude.{◌≡◌, [], false, nat_le, length, IfOk, OnOk, OnErr};
 ghost use Rattle.std.specs.Io.KnownBytes.{Keeps};
 ghost use Rattle.xt_io.specs.Outside.{AppendsAll, AppendsPrefix, HasCause};
-ghost use Rattle.tool_runs.specs.output.Blocks.{held, reached, Finishes, KeepsAnswer};
+ghost use Rattle.tool_runs.specs.output.Blocks.{held, wanting, reached, Finishes, KeepsAnswer};
 
 use crate::output::halt::Halt;
 use crate::output::stop::Stop;
@@ -30,7 +30,9 @@ impl Block {
     }
 
     /// Whether it holds 65,536 octets or more.
-    pub fn is_full(&self) -> bool {
+    pub fn is_full(&self) -> bool
+        ensures { result ≡ nat_le 65536 (length (held self.now)) }
+    {
         self.held.len() >= BLOCK
     }
 
@@ -40,6 +42,7 @@ impl Block {
         ensures whole { OnOk result (AppendsAll (K.taken sink.old) (K.taken sink.new) (held self.old)) }
         ensures prefix { OnErr result (AppendsPrefix (K.taken sink.old) (K.taken sink.new) (held self.old)) }
         ensures empty { held self.new ≡ [] }
+        ensures wanting { wanting self.new ≡ wanting self.old }
         ensures same { K.name sink.new ≡ K.name sink.old }
         ensures cause { HasCause (K.faults sink.old) (K.faults sink.new) result }
     {
@@ -53,6 +56,8 @@ impl Block {
         ensures some { AppendsPrefix (K.taken sink.old) (K.taken sink.new) (held self.old) }
         ensures all { OnOk result (Keeps (reached (K.taken sink.old) (held self.old)) (reached (K.taken sink.new) (held self.new))) }
         ensures none { OnErr result (held self.new ≡ []) }
+        ensures handed { may_wait ≡ false → held self.new ≡ [] }
+        ensures wanting { wanting self.new ≡ wanting self.old }
         ensures same { K.name sink.new ≡ K.name sink.old }
         ensures cause { HasCause (K.faults sink.old) (K.faults sink.new) result }
     {
