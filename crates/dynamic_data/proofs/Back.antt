@@ -18,7 +18,7 @@ use Rattle.json_values.specs.Steps.{Reading, beneath, and_then}
 use Rattle.json_values.specs.Read as spec
 use Rattle.json_values.specs.Read.{value_of, case_reading, body_of, case_of}
 use Rattle.json_values.specs.Written.{data_of, case_data, body_data, disc_key, value_key, prim_data, literal_data, mask_data, octets_data, int_data, list_data, map_data, struct_data, union_data, vals_data, pairs_data, slots_data}
-use Rattle.dynamic_data.proofs.Faithful.{are_apart, is_faithful, members_are_faithful, cases_are_faithful}
+use Rattle.dynamic_data.specs.Faithful.{are_apart, is_faithful, members_are_faithful, cases_are_faithful}
 use Rattle.dynamic_data.proofs.BackLeaves.{at_false, back_prim, back_text, back_literal, back_mask}
 use Rattle.dynamic_data.proofs.BackRows.{back_sequence, back_array, back_map}
 use Rattle.dynamic_data.proofs.BackMembers.{Good, AllGood, back_struct}

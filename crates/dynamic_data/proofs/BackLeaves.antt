@@ -19,7 +19,7 @@ use Rattle.xt_shapes.specs.Lists.{has, all}
 use Rattle.xt_shapes.specs.Select.{is_literal}
 use Rattle.xt_shapes.specs.Typing.{of_prim, in_range, is_below, is_past, is_text_within}
 use Rattle.type_trees.specs.Bridge.{literal_shape}
-use Rattle.dynamic_data.proofs.Faithful.{are_apart}
+use Rattle.dynamic_data.specs.Faithful.{are_apart}
 use Rattle.json_values.specs.Names.{name_text, is_among, literal_names}
 use Rattle.json_values.specs.Read.{whole_of, boolean_of, bits_of, bits_in, prim_of, literal_named, literal_of, text_of, octets_of, decoded}
 use Rattle.json_values.specs.Written.{whole, bits_text, prim_data, mask_data, literal_data, text_data}

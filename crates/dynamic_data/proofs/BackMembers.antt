@@ -12,7 +12,7 @@ use Rattle.type_trees.specs.Trees.{Tree, Members, no_members, member}
 use Rattle.xt_shapes.specs.Vals.{Val, struct_of, Slot as Body, absent, present, Slots, no_slots, one_slot, slots_of, each_slot}
 use Rattle.xt_shapes.specs.Typing.{has_type, have_types, of_slot}
 use Rattle.type_trees.specs.Bridge.{shape, member_shapes}
-use Rattle.dynamic_data.proofs.Faithful.{are_apart}
+use Rattle.dynamic_data.specs.Faithful.{are_apart}
 use Rattle.json_values.specs.Names.{name_text, is_among, member_names}
 use Rattle.json_values.specs.Steps.{mapped_to}
 use Rattle.json_values.specs.Read.{value_of, slot_of, slots_in, has_other, has_missing, struct_where}
@@ -84,7 +84,7 @@ both_false b c hb hc = rw hb hc
 not_among : (b : Bool) → b ≡ true → not b ≡ false
 not_among b h = rw h refl
 
-other_put : (names : List (List ℕ)) (k : List ℕ) (d : Data) (ms : json.Members) → is_among k names ≡ true → has_other names ms ≡ false → has_other names (put k d ms) ≡ false
+pub other_put : (names : List (List ℕ)) (k : List ℕ) (d : Data) (ms : json.Members) → is_among k names ≡ true → has_other names ms ≡ false → has_other names (put k d ms) ≡ false
 other_put names k d json.no_members among none = both_false _ false (not_among _ among) refl
 other_put names k d (json.member l e ms) among none =
     let parts = or_parts (not (is_among l names)) _ none in

@@ -1,4 +1,3 @@
-mod Faithful
 mod BackLeaves
 mod BackRows
 mod BackMembers
@@ -12,3 +11,4 @@ mod TypedLeaves
 mod Typed
 mod Reaching
 pub mod OfNumbers
+pub mod OfTapes

@@ -19,7 +19,7 @@ use Rattle.node_rules.specs.Table as table
 use Rattle.type_rules.specs.Valid.{type_fault}
 use Rattle.type_rules.proofs.Kept.{rules_kept}
 use Rattle.json_values.specs.Names.{name_text, is_among, literal_names, member_names}
-use Rattle.dynamic_data.proofs.Faithful.{are_apart, is_faithful, members_are_faithful, cases_are_faithful}
+use Rattle.dynamic_data.specs.Faithful.{are_apart, is_faithful, members_are_faithful, cases_are_faithful}
 use Rattle.dynamic_data.proofs.BackLeaves.{IsBytes-cons, byte_small, bytes_equal}
 use Rattle.dynamic_data.proofs.NamesFit.{both_true, names_fit, members_fit, cases_fit, type_fits}
 

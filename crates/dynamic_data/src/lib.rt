@@ -3,6 +3,7 @@
 
 mod numbers;
 mod reach;
+mod tapes;
 mod texts;
 
 pub use json_values::{JsonRule, ValueFault};
@@ -11,4 +12,5 @@ pub use numbers::{
     with_numbers,
 };
 pub use reach::get;
+pub use tapes::read_taped;
 pub use texts::{from_json, json_is_read, to_json};

@@ -9,7 +9,7 @@ use Rattle.serde_json.specs.Read.{of_json}
 use Rattle.type_trees.specs.Trees.{Tree}
 use Rattle.xt_shapes.specs.declared.leaves.Primitive.{Primitive}
 use Rattle.xt_shapes.specs.Vals.{Val}
-use Rattle.dynamic_data.proofs.Faithful.{is_faithful}
+use Rattle.dynamic_data.specs.Faithful.{is_faithful}
 use Rattle.dynamic_data.proofs.NamesApart.{type_is_faithful}
 use Rattle.json_values.specs.Read.{value_of, if_json, read_as}
 use Rattle.dynamic_data.specs.numbers.Bits.{bits}

@@ -10,7 +10,7 @@ use Rattle.type_trees.specs.Trees.{Tree, prim, str, enumeration, bitmask, sequen
 use Rattle.xt_shapes.specs.declared.leaves.Primitive.{Primitive}
 use Rattle.xt_shapes.specs.declared.leaves.Step.{Step}
 use Rattle.xt_shapes.specs.Vals.{Val}
-use Rattle.dynamic_data.proofs.Faithful.{are_apart, is_faithful, members_are_faithful, cases_are_faithful}
+use Rattle.dynamic_data.specs.Faithful.{are_apart, is_faithful, members_are_faithful, cases_are_faithful}
 use Rattle.json_values.specs.Names.{name_text, member_names}
 use Rattle.json_values.specs.Steps.{Reading, beneath}
 use Rattle.json_values.specs.Read.{value_of, case_reading}

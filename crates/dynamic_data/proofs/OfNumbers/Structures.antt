@@ -10,7 +10,7 @@ use Rattle.serde_json.specs.Find.{get_member}
 use Rattle.type_trees.specs.Trees.{Tree, Members, no_members, member, MemberHead}
 use Rattle.xt_shapes.specs.declared.leaves.Step.{Step}
 use Rattle.xt_shapes.specs.Vals.{Val, struct_of, slots_of, present}
-use Rattle.dynamic_data.proofs.Faithful.{are_apart}
+use Rattle.dynamic_data.specs.Faithful.{are_apart}
 use Rattle.json_values.specs.declared.faults.JsonRule.{JsonRule}
 use Rattle.json_values.specs.Names.{name_text, is_among, member_names}
 use Rattle.json_values.specs.Steps.{Reading, beneath, mapped_to}

@@ -39,8 +39,8 @@ fn key_of(alloc: Global, name: &Name) -> Result<String, AllocError>
     }
 }
 
-// The place of the first member with that name.
-fn place_among(members: &[Member], name: &str) -> Option<usize>
+/// The place of the first member with that name.
+pub(crate) fn place_among(members: &[Member], name: &str) -> Option<usize>
     ensures { result ≡ place_of members.now name.now }
 {
     members

@@ -1,5 +1,5 @@
 -- Types whose values can be told from their JSON: no two members of a structure and no two literals of an enumeration have one
--- name, and a bitmask has at most 64 bits.
+-- name, and a bitmask has at most 64 bits (this profile's own).
 use Rattle.std.specs.Prelude.{ℕ, List, [], ◌∷◌, Bool, true, not, ◌&&◌, nat_le}
 use Rattle.type_trees.specs.Trees.{Tree, prim, str, enumeration, bitmask, sequence, array, map_of, structure, union, alias, Members, no_members, member, Cases, no_cases, one_case}
 use Rattle.json_values.specs.Names.{is_among, literal_names, member_names}

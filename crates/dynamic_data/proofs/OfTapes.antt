@@ -1,0 +1,4 @@
+pub mod Leaves
+pub mod Lists
+pub mod Slots
+pub mod Whole

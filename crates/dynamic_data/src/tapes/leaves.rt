@@ -1,0 +1,220 @@
+ghost use Rattle.std.specs.Prelude.{◌≡◌, ◌^◌, ◌<◌, ◌==◌, true, false, cond, pos, length, slice_index, Some, Ok, IfSome, IsTrue, option_and_then};
+ghost use Rattle.std.specs.Int.{w32, w64};
+ghost use Rattle.json.specs.Json.{Json};
+ghost use Rattle.json.specs.Find.{BeginsWith};
+ghost use Rattle.serde_json.specs.Data.{string};
+ghost use Rattle.serde_json.specs.Find.{as_integer};
+ghost use Rattle.serde_json.specs.Read.{number_of, number_from};
+ghost use Rattle.xt_shapes.specs.Typing.{of_prim, is_below};
+ghost use Rattle.xt_shapes.specs.Vals.{int};
+ghost use Rattle.type_trees.specs.View.{val};
+ghost use Rattle.json_values.specs.Read as spec;
+ghost use Rattle.dynamic_data.specs.Tapes.{Reads, whole_in};
+
+use fast_float::Numeral;
+use hex::FromHex;
+use json::Element;
+use json_values::is_named;
+use std::alloc::Global;
+use type_trees::{Literal, Value};
+use type_values::{fits_bits, is_of_prim, is_past, is_text_within};
+use xt_lists::Text;
+use xt_shapes::Prim;
+
+/// Structures of more members and enumerations of more literals aren't read, since their names are looked through one by one.
+pub(crate) const MANY: usize = 64;
+
+#[tactic(auto, using(type_trees::proofs::Views::val_rules))]
+fn boolean_value(truth: bool) -> Value
+    ensures { val result ≡ int (cond truth (pos 1) (pos 0)) }
+{
+    Value::Int(if truth { 1 } else { 0 })
+}
+
+fn read_boolean(part: &Element<'_, '_>) -> Option<Value>
+    ensures { Reads spec.boolean_of 0 part.now result }
+{
+    match part.as_bool() {
+        Some(truth) => Some(boolean_value(truth)),
+        None => None,
+    }
+}
+
+// The number below 0 that stands after a `-`.
+fn below_zero(numeral: &Numeral<'_>) -> Option<i128>
+    ensures { IfSome result (λ n. option_and_then as_integer (number_from true numeral.now) ≡ Some n) }
+{
+    match numeral.to_i64(true) {
+        Some(n) => if n < 0 { Some(i128::from(n)) } else { None },
+        None => None,
+    }
+}
+
+fn from_zero(numeral: &Numeral<'_>) -> Option<i128>
+    ensures { IfSome result (λ n. option_and_then as_integer (number_from false numeral.now) ≡ Some n) }
+{
+    match numeral.to_u64() {
+        Some(n) => Some(i128::from(n)),
+        None => None,
+    }
+}
+
+fn has_minus(text: &[u8]) -> bool
+    ensures value { result ≡ (slice_index text.now 0 == 45) }
+    ensures some { IsTrue result → 0 < length text.now }
+{
+    !text.is_empty() && text[0] == b'-'
+}
+
+// The whole number of 64 bits that a number's text writes with neither a point nor an exponent; None for `-0`.
+fn number_in(text: &[u8]) -> Option<i128>
+    ensures { IfSome result (λ n. option_and_then as_integer (number_of text.now) ≡ Some n) }
+{
+    if has_minus(text) {
+        return below_zero(&Numeral::scan(&text[1..]));
+    }
+    from_zero(&Numeral::scan(text))
+}
+
+fn whole(part: &Element<'_, '_>) -> Option<i128>
+    ensures { (j : Json) → BeginsWith part.now j → IfSome result (λ n. whole_in j ≡ Some n) }
+{
+    match part.as_number() {
+        Some(text) => number_in(text.as_bytes()),
+        None => None,
+    }
+}
+
+fn read_whole(prim: Prim, part: &Element<'_, '_>) -> Option<Value>
+    ensures { Reads (spec.whole_of (of_prim prim)) 0 part.now result }
+{
+    match whole(part) {
+        Some(number) => if is_of_prim(prim, number) {
+            Some(Value::Int(number))
+        } else {
+            None
+        },
+        None => None,
+    }
+}
+
+/// The value of a bitmask.
+pub(crate) fn read_mask(bits: u8, part: &Element<'_, '_>) -> Option<Value>
+    ensures { Reads (spec.whole_of (is_below (2 ^ bits))) 0 part.now result }
+{
+    match whole(part) {
+        Some(number) => if fits_bits(bits, number) {
+            Some(Value::Int(number))
+        } else {
+            None
+        },
+        None => None,
+    }
+}
+
+#[tactic(auto, using(type_trees::proofs::Views::val_rules))]
+fn single_in(text: &str) -> Option<Value>
+    ensures { IfSome result (λ v. spec.bits_of w32 4 (string text.now) ≡ Ok (val v)) }
+{
+    match <[u8; 4]>::from_hex(text) {
+        Ok(octets) => Some(Value::Int(i128::from(u32::from_be_bytes(octets)))),
+        Err(_) => None,
+    }
+}
+
+#[tactic(auto, using(type_trees::proofs::Views::val_rules))]
+fn double_in(text: &str) -> Option<Value>
+    ensures { IfSome result (λ v. spec.bits_of w64 8 (string text.now) ≡ Ok (val v)) }
+{
+    match <[u8; 8]>::from_hex(text) {
+        Ok(octets) => Some(Value::Int(i128::from(u64::from_be_bytes(octets)))),
+        Err(_) => None,
+    }
+}
+
+fn read_single(part: &Element<'_, '_>) -> Option<Value>
+    ensures { Reads (spec.bits_of w32 4) 0 part.now result }
+{
+    match part.as_str() {
+        Some(text) => single_in(text),
+        None => None,
+    }
+}
+
+fn read_double(part: &Element<'_, '_>) -> Option<Value>
+    ensures { Reads (spec.bits_of w64 8) 0 part.now result }
+{
+    match part.as_str() {
+        Some(text) => double_in(text),
+        None => None,
+    }
+}
+
+/// The value of a primitive.
+pub(crate) fn read_prim(prim: Prim, part: &Element<'_, '_>) -> Option<Value>
+    ensures { Reads (spec.prim_of prim) 0 part.now result }
+{
+    match prim {
+        Prim::Boolean => read_boolean(part),
+        Prim::Float32 => read_single(part),
+        Prim::Float64 => read_double(part),
+        Prim::Byte
+        | Prim::Int8
+        | Prim::Uint8
+        | Prim::Int16
+        | Prim::Uint16
+        | Prim::Int32
+        | Prim::Uint32
+        | Prim::Int64
+        | Prim::Uint64
+        | Prim::Char8 => read_whole(prim, part),
+    }
+}
+
+#[tactic(auto, using(type_trees::proofs::Views::val_rules))]
+fn literal_named(literals: &[Literal], text: &[u8]) -> Option<Value>
+    ensures { IfSome result (λ v. spec.literal_named literals.now text.now ≡ Ok (val v)) }
+{
+    if literals.len() > MANY {
+        return None;
+    }
+    for literal in literals {
+        if is_named(&literal.name, text) {
+            return Some(Value::Int(i128::from(literal.value)));
+        }
+    }
+    None
+}
+
+/// The value of the literal that is named.
+pub(crate) fn read_literal(literals: &[Literal], part: &Element<'_, '_>) -> Option<Value>
+    ensures { Reads (spec.literal_of literals.now) 0 part.now result }
+{
+    match part.as_str() {
+        Some(text) => literal_named(literals, text.as_bytes()),
+        None => None,
+    }
+}
+
+#[tactic(auto, using(type_trees::proofs::Views::val_rules))]
+fn octets_in(alloc: Global, bound: u32, text: &[u8]) -> Option<Value>
+    ensures { IfSome result (λ v. spec.octets_of bound text.now ≡ Ok (val v)) }
+{
+    if !is_text_within(0, text) || is_past(bound, text.len()) {
+        return None;
+    }
+    match Text::from_octets(alloc, text) {
+        Ok(octets) => Some(Value::Str(octets)),
+        Err(_) => None,
+    }
+}
+
+/// The value of a string type where it stands as a string.
+pub(crate) fn read_text(alloc: Global, bound: u32, part: &Element<'_, '_>) -> Option<Value>
+    ensures { Reads (spec.text_of bound) 0 part.now result }
+{
+    match part.as_str() {
+        Some(text) => octets_in(alloc, bound, text.as_bytes()),
+        None => None,
+    }
+}
