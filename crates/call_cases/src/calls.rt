@@ -4,7 +4,9 @@ use crate::cases::Case;
 use crate::parts::{hashed, headed, noted, put_each, referred, settled};
 use crate::samples::{body_read, sample_again, sample_read, told};
 use crate::trouble::Trouble;
-use crate::values::{given_value, json_of, pairs_of, string_of, type_of, types_of, value_of};
+use crate::values::{
+    given_value, json_of, pairs_of, string_of, taped_value, type_of, types_of, value_of,
+};
 use crate::writing::{body_written, rep_of, sample_faults, sample_written, text_size};
 use assignability::{equivalent, judge, judge_under};
 use dynamic_data::get;
@@ -34,6 +36,7 @@ pub fn answer(alloc: Global, call: &str, case: &Case<'_>) -> Result<Answer, Trou
         "base" => base(alloc, case),
         "keys" => same_keys(alloc, case),
         "json" => json(alloc, case),
+        "taped" => taped(alloc, case),
         "get" => got(alloc, words, case),
         "judge" => judged(alloc, words, case),
         "equivalent" => equal(alloc, case),
@@ -156,6 +159,15 @@ fn json(alloc: Global, case: &Case<'_>) -> Result<Answer, Trouble> {
     let ty = type_of(alloc, case.ty)?;
     let value = given_value(alloc, case)?;
     Ok(Answer::Text(json_of(alloc, &ty, &value)?))
+}
+
+/// The JSON of the value that is read from a tape, or `none`.
+fn taped(alloc: Global, case: &Case<'_>) -> Result<Answer, Trouble> {
+    let ty = type_of(alloc, case.ty)?;
+    match taped_value(alloc, &ty, case.value) {
+        Some(value) => Ok(Answer::Text(json_of(alloc, &ty, &value)?)),
+        None => Ok(Answer::Word("none")),
+    }
 }
 
 fn member_type<'t>(members: &'t [Member], name: &Text) -> Option<&'t XType> {

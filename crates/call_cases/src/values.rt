@@ -5,7 +5,8 @@ ghost use Rattle.type_rules.specs.Valid.{type_fault};
 
 use crate::cases::Case;
 use crate::trouble::Trouble;
-use dynamic_data::{from_json, to_json};
+use dynamic_data::{from_json, read_taped, to_json};
+use json::Scratch;
 use std::alloc::Global;
 use type_rules::check_type;
 use type_trees::{Named, Pair, Slot, Value, XType};
@@ -52,6 +53,14 @@ pub fn value_of(alloc: Global, ty: &XType, json: &str) -> Result<Value, Trouble>
     requires { type_fault (tree ty.now) ≡ None }
 {
     Ok(from_json(alloc, ty, json.as_bytes())?)
+}
+
+/// The value that a tape of the JSON's tokens gives for the type, if it gives one.
+pub fn taped_value(alloc: Global, ty: &XType, json: &str) -> Option<Value>
+    requires { type_fault (tree ty.now) ≡ None }
+{
+    let mut scratch = Scratch::new(alloc);
+    read_taped(alloc, ty, json.as_bytes(), &mut scratch)
 }
 
 /// The value of a case, of the writer's type where there is one.

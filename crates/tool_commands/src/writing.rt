@@ -39,7 +39,7 @@ impl<'a> Quiet for Writing<'a> {
         ensures { Comes (write_records (reference_view self.now.reference) self.now.rep records.now) (λ run number body. ⟦<Values as Turns>⟧.to_write run number body) result }
     {
         let ty = top_type(alloc, &self.reference, records)?;
-        Ok(Values::new(ty, self.rep))
+        Ok(Values::new(alloc, ty, self.rep))
     }
 
     ghost at_end = { λ run number. run_at_end _ _ _ _ number };

@@ -4,6 +4,7 @@ ghost use Rattle.type_trees.specs.Bridge.{type_shape};
 ghost use Rattle.projection_laws.specs.Premises.{IsValid};
 ghost use Rattle.settled_parts.specs.Settling.{outcome_val};
 ghost use Rattle.xcdr_model.specs.Samples.{read_sample};
+ghost use Rattle.json_values.specs.Read.{read_as};
 ghost use Rattle.json_values.specs.Steps.{FailsAs};
 ghost use Rattle.json_values.specs.declared.faults.ValueFault.TheVariants.{OutOfMemory as NoMemory};
 ghost use Rattle.dynamic_data.specs.numbers.Kinds as kinds;
@@ -20,9 +21,10 @@ use crate::plain::plain_sample;
 use crate::types::Types;
 use crate::words::{Floats, pair_of};
 use dynamic_data::{
-    ValueFault, from_json, from_numbers, has_floats, plain_is_read, plain_is_shown, to_json,
-    with_numbers,
+    ValueFault, from_json, from_numbers, has_floats, plain_is_read, plain_is_shown, read_taped,
+    to_json, with_numbers,
 };
+use json::Scratch;
 use packed_json::{Plan, write_value};
 use packed_reader::read_plain;
 use settled_parts::Outcome;
@@ -124,6 +126,27 @@ fn shown(alloc: Global, floats: Floats, ty: &XType, plain: Answer) -> Result<Ans
     }
 }
 
+// The value of a text with raw bits for floats, read from a tape of its tokens. None says nothing.
+fn taped(alloc: Global, ty: &XType, json: &[u8]) -> Option<Value>
+    requires { IsValid ty.now }
+    ensures { IfSome result (λ value. read_as (tree ty.now) json.now ≡ Ok (val value)) }
+{
+    let mut scratch = Scratch::new(alloc);
+    read_taped(alloc, ty, json, &mut scratch)
+}
+
+// The value of a text with raw bits for floats.
+fn bits_meaning(alloc: Global, ty: &XType, json: &[u8]) -> Result<Value, ValueFault>
+    requires { IsValid ty.now }
+    ensures ok { IfOk result (λ value. read_as (tree ty.now) json.now ≡ Ok (val value)) }
+    ensures err { FailsAs (read_as (tree ty.now) json.now) result }
+{
+    match taped(alloc, ty, json) {
+        Some(value) => Ok(value),
+        None => from_json(alloc, ty, json),
+    }
+}
+
 // The value that a text in JSON means.
 fn meaning(alloc: Global, floats: Floats, ty: &XType, json: &[u8]) -> Result<Value, ValueFault>
     requires { IsValid ty.now }
@@ -131,7 +154,7 @@ fn meaning(alloc: Global, floats: Floats, ty: &XType, json: &[u8]) -> Result<Val
     ensures err { FailsAs (spec.meaning floats (tree ty.now) json.now) result }
 {
     match floats {
-        Floats::Bits => from_json(alloc, ty, json),
+        Floats::Bits => bits_meaning(alloc, ty, json),
         Floats::Numbers => from_numbers(alloc, ty, json),
     }
 }

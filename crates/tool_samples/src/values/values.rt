@@ -2,6 +2,7 @@ ghost use Rattle.std.specs.Prelude.{◌≡◌};
 ghost use Rattle.projection_laws.specs.Premises.{IsValid};
 
 use crate::values::writing::write_value;
+use json::Scratch;
 use std::alloc::Global;
 use tool_runs::output::{Payloads, Stop};
 use type_trees::XType;
@@ -14,16 +15,22 @@ use xt_shapes::Rep;
 pub struct Values {
     ty: XType,
     rep: Rep,
+    scratch: Scratch,
     ghost valid: { IsValid ty },
 }
 
 impl Values {
-    pub fn new(ty: XType, rep: Rep) -> Values
+    /// It takes no memory; what is read later is read in memory of this allocator.
+    pub fn new(alloc: Global, ty: XType, rep: Rep) -> Values
         requires { IsValid ty }
         ensures ty { result.ty ≡ ty }
         ensures rep { result.rep ≡ rep }
     {
-        Values { ty, rep }
+        Values {
+            ty,
+            rep,
+            scratch: Scratch::new(alloc),
+        }
     }
 }
 
@@ -56,7 +63,8 @@ impl Payloads for Values {
         payload: Text,
         sink: &mut K,
     ) -> Result<(), Stop> {
-        write_value(alloc, &self.ty, self.rep, number, payload.octets(), sink)
+        let Values { ty, rep, scratch } = self;
+        write_value(alloc, ty, *rep, number, payload.octets(), scratch, sink)
     }
 
     ghost at_fault = { λ s k fault. run_at_fault Records (taking Json (write_turn s.rep (tree s.ty))) (λ u. finished) tt k fault };

@@ -9,7 +9,8 @@ ghost use Rattle.tool_samples.specs.values.Values.{TurnsTo};
 
 use crate::lines::say_sample;
 use crate::values::refusals::{refuse_json, refuse_value};
-use dynamic_data::from_json;
+use dynamic_data::{from_json, read_taped};
+use json::Scratch;
 use std::alloc::Global;
 use tool_runs::output::{Stop, Style};
 use type_trees::{Value, XType};
@@ -33,8 +34,8 @@ fn sized(
     }
 }
 
-// The value of a JSON text, with its sample's octets.
-fn read_value(
+// The value of a JSON text that has to be read in general, with its sample's octets.
+fn read_general(
     alloc: Global,
     ty: &XType,
     rep: Rep,
@@ -50,13 +51,33 @@ fn read_value(
     }
 }
 
-/// Writes the record of the sample of a JSON value, the payload of the record of this number. A refusal is not written yet.
+// The value of a JSON text, with its sample's octets.
+fn read_value(
+    alloc: Global,
+    ty: &XType,
+    rep: Rep,
+    number: u32,
+    payload: &[u8],
+    scratch: &mut Scratch,
+) -> Result<(Value, u32), Stop>
+    requires { IsValid ty.now }
+    ensures { TurnsTo rep (tree ty.now) (lines.written rep (tree ty.now) number (read_as (tree ty.now) payload.now)) result }
+{
+    match read_taped(alloc, ty, payload, scratch) {
+        Some(value) => sized(alloc, ty, rep, number, value),
+        None => read_general(alloc, ty, rep, number, payload),
+    }
+}
+
+/// Writes the record of the sample of a JSON value, the payload of the record of this number. A refusal is not written yet. The scratch is
+/// kept from text to text.
 pub fn write_value<K: Sink>(
     alloc: Global,
     ty: &XType,
     rep: Rep,
     number: u32,
     payload: &[u8],
+    scratch: &mut Scratch,
     sink: &mut K,
 ) -> Result<(), Stop>
     requires { IsValid ty.now }
@@ -64,7 +85,7 @@ pub fn write_value<K: Sink>(
     ensures stops { StopsWriting (K.faults sink.old) (K.faults sink.new) result }
     ensures same { K.name sink.new ≡ K.name sink.old }
 {
-    match read_value(alloc, ty, rep, number, payload) {
+    match read_value(alloc, ty, rep, number, payload, scratch) {
         Err(stop) => Err(stop),
         Ok((value, octets)) => match say_sample(rep, ty, &value, octets, sink) {
             Ok(()) => Ok(()),
