@@ -5,6 +5,7 @@ ghost use Rattle.xt_shapes.specs.Vals.{text};
 ghost use Rattle.json_values.specs.declared.faults.ValueFault.TheVariants.{OutOfMemory};
 ghost use Rattle.json_values.specs.Steps.{FailsAs, here, steps_of};
 ghost use Rattle.json_values.specs.Read as spec;
+ghost use Rattle.json_values.specs.Indices.{value_named};
 ghost use Rattle.xt_shapes.specs.Typing.{of_prim, is_below};
 ghost use Rattle.std.specs.Prelude.{bytes_eq, Some, option_map};
 ghost use Rattle.std.specs.Int.{w32, w64};
@@ -148,18 +149,27 @@ pub(crate) fn read_prim(prim: Prim, part: &Data) -> Result<Value, ValueFault>
     }
 }
 
-#[tactic(auto, using(type_trees::proofs::Views::val_rules))]
+/// The value of the first literal with that name, as names stand in JSON.
+pub fn literal_named(literals: &[Literal], text: &[u8]) -> Option<i32>
+    ensures { result ≡ value_named literals.now text.now }
+{
+    for literal in literals {
+        if is_named(&literal.name, text) {
+            return Some(literal.value);
+        }
+    }
+    None
+}
+
 fn read_named(literals: &[Literal], text: &[u8]) -> Result<Value, ValueFault>
     ensures ok { IfOk result (λ v. spec.literal_named literals.now text.now ≡ Ok (val v)) }
     ensures err { IfErr result (λ e. spec.literal_named literals.now text.now ≡ Err e) }
     ensures short { IfErr result (λ e. steps_of e ≡ 0) }
 {
-    for literal in literals {
-        if is_named(&literal.name, text) {
-            return Ok(Value::Int(i128::from(literal.value)));
-        }
+    match literal_named(literals, text) {
+        Some(value) => Ok(Value::Int(i128::from(value))),
+        None => Err(wrong(JsonRule::Literal)),
     }
-    Err(wrong(JsonRule::Literal))
 }
 
 #[tactic(auto, using(crate::proofs::DataViews::data_rules))]
@@ -176,9 +186,9 @@ pub(crate) fn read_literal(literals: &[Literal], part: &Data) -> Result<Value, V
     }
 }
 
-/// The first rule that octets break as a string of this bound.
+/// The first rule that octets break as a string of this bound: `Text` where a NUL stands in them, `Bound` where they are too many.
 #[inline(always)]
-pub(crate) fn octets_fault(bound: u32, octets: &[u8]) -> Option<JsonRule>
+pub fn octets_fault(bound: u32, octets: &[u8]) -> Option<JsonRule>
     ensures { spec.octets_of bound octets.now ≡ spec.unless_fault result (text octets.now) }
 {
     if !is_text_within(0, octets) {

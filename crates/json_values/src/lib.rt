@@ -13,6 +13,7 @@ mod write;
 mod write_lists;
 
 pub use faults::{JsonRule, ValueFault};
-pub use names::is_named;
+pub use leaves::{literal_named, octets_fault};
+pub use names::{is_named, key_of, text_of};
 pub use read::read_json;
 pub use write::write_json;

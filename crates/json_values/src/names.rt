@@ -8,7 +8,7 @@ use std::alloc::{AllocError, Global};
 use type_trees::{Member, Name};
 
 /// Octets that are a text, as one.
-pub(crate) fn text_of(octets: &[u8]) -> &str
+pub fn text_of(octets: &[u8]) -> &str
     requires { is_utf8 octets.now ≡ true }
     ensures { result.now ≡ octets.now }
 {
@@ -48,9 +48,9 @@ fn octets_string(alloc: Global, octets: &[u8]) -> Result<String, AllocError>
     String::from_str(alloc, text_of(octets))
 }
 
-/// A name as it stands in JSON.
+/// A name as it stands in JSON: a key of an object there, or the text of a literal.
 #[inline(always)]
-pub(crate) fn key_of(alloc: Global, name: &Name) -> Result<String, AllocError>
+pub fn key_of(alloc: Global, name: &Name) -> Result<String, AllocError>
     requires { is_utf8 (name_text name.now) ≡ true }
     ensures { IfOk result (λ s. string_bytes s ≡ name_text name.now) }
 {

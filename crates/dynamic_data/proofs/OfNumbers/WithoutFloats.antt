@@ -22,7 +22,8 @@ use Rattle.json_values.specs.Steps.{Reading}
 use Rattle.json_values.specs.Written.{data_of, json_text, value_key}
 use Rattle.dynamic_data.specs.numbers.Bits.{bits}
 use Rattle.dynamic_data.specs.numbers.Floats.{ShowsNumber}
-use Rattle.dynamic_data.specs.numbers.Kinds.{is_float, has_floats, members_have_floats, cases_have_floats}
+use Rattle.xt_shapes.specs.NodeRules.{is_float}
+use Rattle.dynamic_data.specs.numbers.Kinds.{has_floats, members_have_floats, cases_have_floats}
 use Rattle.dynamic_data.specs.numbers.Laws.{PlainIsShown, PlainIsRead}
 use Rattle.dynamic_data.specs.numbers.Texts.{tree_of, document, ShowsTree, bits_tree, bits_text, with_range}
 use Rattle.dynamic_data.specs.numbers.Walks.{Turn, PairTurns, BodyTurns, SelectedTurns, case_in, Turns, MemberTurns, CaseTurns}

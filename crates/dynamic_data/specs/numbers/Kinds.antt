@@ -1,12 +1,7 @@
 -- The types that have a float in them (this profile's own).
-use Rattle.std.specs.Prelude.{Bool, true, false, ◌||◌}
-use Rattle.xt_shapes.specs.declared.leaves.Primitive.{Primitive}
+use Rattle.std.specs.Prelude.{Bool, false, ◌||◌}
+use Rattle.xt_shapes.specs.NodeRules.{is_float}
 use Rattle.type_trees.specs.Trees.{Tree, prim, str, enumeration, bitmask, sequence, array, map_of, structure, union, alias, Members, no_members, member, Cases, no_cases, one_case}
-
-abbrev pub is_float : Primitive → Bool
-is_float Primitive.Float32 = true
-is_float Primitive.Float64 = true
-is_float p = false
 
 -- Whether a float stands anywhere in the type, aliases followed. A union's discriminator is never one, so only its cases are looked at.
 abbrev mutual

@@ -1,27 +1,15 @@
 ghost use Rattle.std.specs.Prelude.{◌≡◌};
 ghost use Rattle.type_trees.specs.View.{tree, members_tree, cases_tree};
+ghost use Rattle.xt_shapes.specs.NodeRules.{is_float};
 ghost use Rattle.dynamic_data.specs.numbers.Kinds as spec;
 
 use type_trees::{Case, Member, XType};
 use xt_shapes::Prim;
 
 fn is_float(prim: Prim) -> bool
-    ensures { result ≡ spec.is_float prim }
+    ensures { result ≡ is_float prim }
 {
-    match prim {
-        Prim::Float32 | Prim::Float64 => true,
-        Prim::Boolean
-        | Prim::Byte
-        | Prim::Int8
-        | Prim::Uint8
-        | Prim::Int16
-        | Prim::Uint16
-        | Prim::Int32
-        | Prim::Uint32
-        | Prim::Int64
-        | Prim::Uint64
-        | Prim::Char8 => false,
-    }
+    matches!(prim, Prim::Float32 | Prim::Float64)
 }
 
 #[cycle(has_floats)]

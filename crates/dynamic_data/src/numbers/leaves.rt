@@ -1,5 +1,4 @@
-ghost use Rattle.std.specs.Prelude.{◌≡◌, true};
-ghost use Rattle.std.specs.Str.{is_utf8};
+ghost use Rattle.std.specs.Prelude.{◌≡◌};
 ghost use Rattle.json.specs.Tree.{HasNumbers};
 ghost use Rattle.json.specs.Value.{value_view};
 ghost use Rattle.dynamic_data.specs.numbers.Forms.{LeafTurns, Puts, too_large};
@@ -10,14 +9,6 @@ use crate::numbers::singles::turn_single;
 use json::{Value as Json, Writer};
 use xt_lists::OutOfMemory;
 use xt_shapes::Prim;
-
-/// Octets that are a text, as one.
-pub(crate) fn text_of(octets: &[u8]) -> &str
-    requires { is_utf8 octets.now ≡ true }
-    ensures { result.now ≡ octets.now }
-{
-    unsafe { std::str::from_utf8_unchecked(octets) }
-}
 
 /// Writes a value as it stands.
 pub(crate) fn keep(part: &Json<'_>, out: &mut Writer) -> Result<(), OutOfMemory>

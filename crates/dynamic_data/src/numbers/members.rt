@@ -1,43 +1,16 @@
-ghost use Rattle.std.specs.Prelude.{◌≡◌, ◌<◌, true, length, IfOk, IfSome, string_bytes};
-ghost use Rattle.std.specs.Str.{is_utf8};
+ghost use Rattle.std.specs.Prelude.{◌≡◌, ◌<◌, true, length, IfOk, IfSome};
 ghost use Rattle.type_trees.specs.View.{members_tree};
-ghost use Rattle.type_trees.specs.declared.types.Name.TheVariants.{Hashed};
-ghost use Rattle.json_values.specs.Names.{name_text, members_have_text_names};
+ghost use Rattle.json_values.specs.Names.{members_have_text_names};
 ghost use Rattle.dynamic_data.specs.numbers.Places.{place_of, HoldsPlaces, Finds};
 
-use crate::numbers::leaves::text_of;
-use json_values::is_named;
-use std::alloc::{AllocError, Global};
+use json_values::{is_named, key_of};
+use std::alloc::Global;
 use std::collections::BTreeMap;
-use type_trees::{Member, Name};
+use type_trees::Member;
 use xt_lists::OutOfMemory;
 
 // Members are looked through one by one where they, or the keys, are so few.
 const FEW: usize = 16;
-
-// `#` and a hash's octets in hexadecimal.
-fn hashed_text(hash: u32) -> [u8; 9]
-    ensures { result ≡ name_text (Hashed hash) }
-{
-    let mut digits = [0u8; 8];
-    match hex::encode_to_slice(hash.to_le_bytes(), &mut digits) {
-        Ok(()) => {}
-        Err(_) => {}
-    }
-    let [a, b, c, d, e, f, g, h] = digits;
-    [b'#', a, b, c, d, e, f, g, h]
-}
-
-// A name as it stands in JSON.
-fn key_of(alloc: Global, name: &Name) -> Result<String, AllocError>
-    requires { is_utf8 (name_text name.now) ≡ true }
-    ensures { IfOk result (λ key. string_bytes key ≡ name_text name.now) }
-{
-    match name {
-        Name::Full(full) => String::from_str(alloc, text_of(full.octets())),
-        Name::Hashed(hash) => String::from_str(alloc, text_of(hashed_text(*hash).as_slice())),
-    }
-}
 
 /// The place of the first member with that name.
 pub(crate) fn place_among(members: &[Member], name: &str) -> Option<usize>

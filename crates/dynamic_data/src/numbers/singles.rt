@@ -11,9 +11,10 @@ ghost use Rattle.dynamic_data.specs.declared.numbers.forms.Form.{Form as AnyForm
 ghost use Rattle.xt_shapes.specs.declared.leaves.Primitive.{Primitive};
 
 use crate::numbers::forms::Form;
-use crate::numbers::leaves::{keep, put_too_large, text_of};
+use crate::numbers::leaves::{keep, put_too_large};
 use hex::FromHex;
 use json::{Value as Json, Writer};
+use json_values::text_of;
 use std::num::f32_from_bits_with_nan;
 use xt_lists::OutOfMemory;
 

@@ -14,10 +14,10 @@ ghost use Rattle.dynamic_data.specs.Tapes.{Reads, whole_in};
 use fast_float::Numeral;
 use hex::FromHex;
 use json::Element;
-use json_values::is_named;
+use json_values::{literal_named, octets_fault};
 use std::alloc::Global;
 use type_trees::{Literal, Value};
-use type_values::{fits_bits, is_of_prim, is_past, is_text_within};
+use type_values::{fits_bits, is_of_prim};
 use xt_lists::Text;
 use xt_shapes::Prim;
 
@@ -34,29 +34,27 @@ fn boolean_value(truth: bool) -> Value
 fn read_boolean(part: &Element<'_, '_>) -> Option<Value>
     ensures { Reads spec.boolean_of 0 part.now result }
 {
-    match part.as_bool() {
-        Some(truth) => Some(boolean_value(truth)),
-        None => None,
-    }
+    let truth = part.as_bool()?;
+    Some(boolean_value(truth))
 }
 
 // The number below 0 that stands after a `-`.
 fn below_zero(numeral: &Numeral<'_>) -> Option<i128>
     ensures { IfSome result (λ n. option_and_then as_integer (number_from true numeral.now) ≡ Some n) }
 {
-    match numeral.to_i64(true) {
-        Some(n) => if n < 0 { Some(i128::from(n)) } else { None },
-        None => None,
+    let number = numeral.to_i64(true)?;
+    if number < 0 {
+        Some(i128::from(number))
+    } else {
+        None
     }
 }
 
 fn from_zero(numeral: &Numeral<'_>) -> Option<i128>
     ensures { IfSome result (λ n. option_and_then as_integer (number_from false numeral.now) ≡ Some n) }
 {
-    match numeral.to_u64() {
-        Some(n) => Some(i128::from(n)),
-        None => None,
-    }
+    let number = numeral.to_u64()?;
+    Some(i128::from(number))
 }
 
 fn has_minus(text: &[u8]) -> bool
@@ -67,7 +65,7 @@ fn has_minus(text: &[u8]) -> bool
 }
 
 // The whole number of 64 bits that a number's text writes with neither a point nor an exponent; None for `-0`.
-fn number_in(text: &[u8]) -> Option<i128>
+fn whole_in_text(text: &[u8]) -> Option<i128>
     ensures { IfSome result (λ n. option_and_then as_integer (number_of text.now) ≡ Some n) }
 {
     if has_minus(text) {
@@ -79,22 +77,18 @@ fn number_in(text: &[u8]) -> Option<i128>
 fn whole(part: &Element<'_, '_>) -> Option<i128>
     ensures { (j : Json) → BeginsWith part.now j → IfSome result (λ n. whole_in j ≡ Some n) }
 {
-    match part.as_number() {
-        Some(text) => number_in(text.as_bytes()),
-        None => None,
-    }
+    let text = part.as_number()?;
+    whole_in_text(text.as_bytes())
 }
 
 fn read_whole(prim: Prim, part: &Element<'_, '_>) -> Option<Value>
     ensures { Reads (spec.whole_of (of_prim prim)) 0 part.now result }
 {
-    match whole(part) {
-        Some(number) => if is_of_prim(prim, number) {
-            Some(Value::Int(number))
-        } else {
-            None
-        },
-        None => None,
+    let number = whole(part)?;
+    if is_of_prim(prim, number) {
+        Some(Value::Int(number))
+    } else {
+        None
     }
 }
 
@@ -102,13 +96,11 @@ fn read_whole(prim: Prim, part: &Element<'_, '_>) -> Option<Value>
 pub(crate) fn read_mask(bits: u8, part: &Element<'_, '_>) -> Option<Value>
     ensures { Reads (spec.whole_of (is_below (2 ^ bits))) 0 part.now result }
 {
-    match whole(part) {
-        Some(number) => if fits_bits(bits, number) {
-            Some(Value::Int(number))
-        } else {
-            None
-        },
-        None => None,
+    let number = whole(part)?;
+    if fits_bits(bits, number) {
+        Some(Value::Int(number))
+    } else {
+        None
     }
 }
 
@@ -135,19 +127,15 @@ fn double_in(text: &str) -> Option<Value>
 fn read_single(part: &Element<'_, '_>) -> Option<Value>
     ensures { Reads (spec.bits_of w32 4) 0 part.now result }
 {
-    match part.as_str() {
-        Some(text) => single_in(text),
-        None => None,
-    }
+    let text = part.as_str()?;
+    single_in(text)
 }
 
 fn read_double(part: &Element<'_, '_>) -> Option<Value>
     ensures { Reads (spec.bits_of w64 8) 0 part.now result }
 {
-    match part.as_str() {
-        Some(text) => double_in(text),
-        None => None,
-    }
+    let text = part.as_str()?;
+    double_in(text)
 }
 
 /// The value of a primitive.
@@ -172,35 +160,29 @@ pub(crate) fn read_prim(prim: Prim, part: &Element<'_, '_>) -> Option<Value>
 }
 
 #[tactic(auto, using(type_trees::proofs::Views::val_rules))]
-fn literal_named(literals: &[Literal], text: &[u8]) -> Option<Value>
+fn literal_value(literals: &[Literal], text: &[u8]) -> Option<Value>
     ensures { IfSome result (λ v. spec.literal_named literals.now text.now ≡ Ok (val v)) }
 {
     if literals.len() > MANY {
         return None;
     }
-    for literal in literals {
-        if is_named(&literal.name, text) {
-            return Some(Value::Int(i128::from(literal.value)));
-        }
-    }
-    None
+    let value = literal_named(literals, text)?;
+    Some(Value::Int(i128::from(value)))
 }
 
 /// The value of the literal that is named.
 pub(crate) fn read_literal(literals: &[Literal], part: &Element<'_, '_>) -> Option<Value>
     ensures { Reads (spec.literal_of literals.now) 0 part.now result }
 {
-    match part.as_str() {
-        Some(text) => literal_named(literals, text.as_bytes()),
-        None => None,
-    }
+    let text = part.as_str()?;
+    literal_value(literals, text.as_bytes())
 }
 
 #[tactic(auto, using(type_trees::proofs::Views::val_rules))]
 fn octets_in(alloc: Global, bound: u32, text: &[u8]) -> Option<Value>
     ensures { IfSome result (λ v. spec.octets_of bound text.now ≡ Ok (val v)) }
 {
-    if !is_text_within(0, text) || is_past(bound, text.len()) {
+    if octets_fault(bound, text).is_some() {
         return None;
     }
     match Text::from_octets(alloc, text) {
@@ -213,8 +195,6 @@ fn octets_in(alloc: Global, bound: u32, text: &[u8]) -> Option<Value>
 pub(crate) fn read_text(alloc: Global, bound: u32, part: &Element<'_, '_>) -> Option<Value>
     ensures { Reads (spec.text_of bound) 0 part.now result }
 {
-    match part.as_str() {
-        Some(text) => octets_in(alloc, bound, text.as_bytes()),
-        None => None,
-    }
+    let text = part.as_str()?;
+    octets_in(alloc, bound, text.as_bytes())
 }

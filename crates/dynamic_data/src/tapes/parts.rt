@@ -22,14 +22,10 @@ fn read_items(alloc: Global, ty: &XType, part: &Element<'_, '_>) -> Option<Row<V
     requires { is_faithful (tree ty.now) ≡ true }
     ensures { ReadsItems (value_of (tree ty.now)) (depth (tree ty.now)) part.now result }
 {
-    let Some(mut items) = part.items() else {
-        return None;
-    };
+    let mut items = part.items()?;
     let mut values = Row::new(alloc);
     while let Some(item) = items.next() {
-        let Some(value) = read_part(alloc, ty, &item) else {
-            return None;
-        };
+        let value = read_part(alloc, ty, &item)?;
         let Ok(()) = values.push(value) else {
             return None;
         };
@@ -43,9 +39,7 @@ fn read_sequence(alloc: Global, kind: &SeqType, part: &Element<'_, '_>) -> Optio
     requires { is_faithful (sequence_tree kind.now) ≡ true }
     ensures { Reads (value_of (sequence_tree kind.now)) (depth (sequence_tree kind.now)) part.now result }
 {
-    let Some(values) = read_items(alloc, &kind.elem.ty, part) else {
-        return None;
-    };
+    let values = read_items(alloc, &kind.elem.ty, part)?;
     if is_past(kind.bound, values.len()) {
         return None;
     }
@@ -58,9 +52,7 @@ fn read_array(alloc: Global, kind: &ArrayType, part: &Element<'_, '_>) -> Option
     requires { is_faithful (array_tree kind.now) ≡ true }
     ensures { Reads (value_of (array_tree kind.now)) (depth (array_tree kind.now)) part.now result }
 {
-    let Some(values) = read_items(alloc, &kind.elem.ty, part) else {
-        return None;
-    };
+    let values = read_items(alloc, &kind.elem.ty, part)?;
     let count = values.as_slice().len() as u64;
     if count != elements_of(kind.dims.as_slice()) {
         return None;
@@ -83,19 +75,11 @@ fn read_members(alloc: Global, members: &[Member], part: &Element<'_, '_>) -> Op
     requires faithful { members_are_faithful (members_tree members.now) ≡ true }
     ensures { ReadsMembers (members_tree members.now) (members_depth (members_tree members.now)) part.now result }
 {
-    let Some(mut rest) = part.members() else {
-        return None;
-    };
-    let Some(mut slots) = absent_slots(alloc, members.len()) else {
-        return None;
-    };
+    let mut rest = part.members()?;
+    let mut slots = absent_slots(alloc, members.len())?;
     while let Some((key, item)) = rest.next() {
-        let Some(at) = place_among(members, key) else {
-            return None;
-        };
-        let Some(value) = read_member(alloc, &members[at], &item) else {
-            return None;
-        };
+        let at = place_among(members, key)?;
+        let value = read_member(alloc, &members[at], &item)?;
         fill(&mut slots, at, value);
     }
     Some(slots)
@@ -110,9 +94,7 @@ fn read_struct(alloc: Global, kind: &StructType, part: &Element<'_, '_>) -> Opti
     if kind.members.len() > MANY {
         return None;
     }
-    let Some(slots) = read_members(alloc, kind.members.as_slice(), part) else {
-        return None;
-    };
+    let slots = read_members(alloc, kind.members.as_slice(), part)?;
     if has_open_slot(kind.members.as_slice(), slots.as_slice()) {
         return None;
     }

@@ -4,8 +4,8 @@ use Rattle.std.specs.Int.{w128}
 use Rattle.dynamic_data.proofs.OfTapes.Leaves.{from_zero_read}
 use Rattle.dynamic_data.proofs.tapes.leaves.from_zero.Goals as goal
 
-pub returns-in-Some : goal.returns-in-Some
-returns-in-Some c =
-    let e = c.in-Some.ensures in
+pub returns : goal.returns
+returns c =
+    let e = c.in_ok-number.ensures in
     let back : to_z w128 (of_z w128 c.from.result) ≡ c.from.result = search rules in
     from_zero_read c.args.numeral.now e.0.0 e.0.1 ∙ ap (λ k. Some (pos k)) (sym e.1) ∙ ap Some (sym (back ∙ c.from.ensures))

@@ -4,5 +4,5 @@ use Rattle.dynamic_data.specs.Tapes.{Means}
 use Rattle.dynamic_data.proofs.OfTapes.Leaves.{boolean_means}
 use Rattle.dynamic_data.proofs.tapes.leaves.read_boolean.Goals as goal
 
-pub returns-in-Some : goal.returns-in-Some
-returns-in-Some c j begins = subst (Means boolean_of 0 j) (sym c.boolean_value.ensures) (boolean_means j c.in-Some.truth (c.in-Some.ensures j begins))
+pub returns : goal.returns
+returns c j begins = subst (Means boolean_of 0 j) (sym c.boolean_value.ensures) (boolean_means j c.in_ok-truth.truth (c.in_ok-truth.ensures j begins))

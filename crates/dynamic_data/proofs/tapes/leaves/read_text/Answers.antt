@@ -5,7 +5,7 @@ use Rattle.json_values.specs.Read.{octets_of, text_of}
 use Rattle.dynamic_data.proofs.OfTapes.Leaves.{texts_mean}
 use Rattle.dynamic_data.proofs.tapes.leaves.read_text.Goals as goal
 
-pub returns-in-Some : goal.returns-in-Some
-returns-in-Some c j begins =
+pub returns : goal.returns
+returns c j begins =
     let r = c.octets_in.result in
-    texts_mean (text_of c.args.bound) j c.in-Some.text.now r (c.in-Some.ensures j begins) (subst (λ (s : List ℕ). IfSome r (λ v. octets_of c.args.bound s ≡ Ok (val v))) c.as_bytes.ensures.value c.octets_in.ensures)
+    texts_mean (text_of c.args.bound) j c.in_ok-text.text.now r (c.in_ok-text.ensures j begins) (subst (λ (s : List ℕ). IfSome r (λ v. octets_of c.args.bound s ≡ Ok (val v))) c.as_bytes.ensures.value c.octets_in.ensures)

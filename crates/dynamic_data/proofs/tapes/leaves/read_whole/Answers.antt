@@ -13,7 +13,7 @@ use Rattle.dynamic_data.proofs.tapes.leaves.read_whole.Goals as goal
 pub returns-then-is_of_prim : goal.returns-then-is_of_prim
 returns-then-is_of_prim c j begins =
     let fits = of_prim c.args.prim in
-    let number = c.in-Some.number in
+    let number = c.in_ok-number.number in
     let same : to_z w128 (of_z w128 number) ≡ number = search rules in
     subst (λ (k : ℤ). Means (whole_of fits) 0 j (val (v.Int k))) (sym same)
-    (subst (Means (whole_of fits) 0 j) (sym (val_int number)) (whole_means fits j number (c.in-Some.ensures j begins) (subst (λ (k : ℤ). fits k ≡ true) same (sym c.if-is_of_prim.ensures))))
+    (subst (Means (whole_of fits) 0 j) (sym (val_int number)) (whole_means fits j number (c.in_ok-number.ensures j begins) (subst (λ (k : ℤ). fits k ≡ true) same (sym c.if-is_of_prim.ensures))))

@@ -31,7 +31,7 @@ pub read_items-loop-item-init : goal.read_items-loop-item-init
 read_items-loop-item-init t c j begins =
     let F = value_of (tree c.args.ty.now) in
     let n = depth (tree c.args.ty.now) in
-    let shape = c.in-Some.ensures j begins in
+    let shape = c.in_ok-items.ensures j begins in
     (shape.0, shape.0, shape.1, shape.2, subst (λ (vs : List Value). AllMeanAfter F n shape.0 shape.0 (map val vs)) (sym c.new-values.ensures) (items_begin F n shape.0))
 
 pub read_items-loop-item-preserved : goal.read_items-loop-item-preserved
@@ -39,23 +39,23 @@ read_items-loop-item-preserved t c j begins =
     let F = value_of (tree c.args.ty.now) in
     let n = depth (tree c.args.ty.now) in
     let now = c.loop-item.invariant j begins in
-    let f = c.in-Some-next.ensures.value now.1 now.3 in
-    (now.0, f.1, now.2, f.4, subst (λ (vs : List Value). AllMeanAfter F n now.0 f.1 (map val vs)) (sym c.in-Ok.ensures.ok) (items_next F n now.0 now.1 f.1 f.0 c.loop-item.values c.in-Some-read_part.value f.2 (c.in-Some-read_part.ensures f.0 f.3) now.4))
+    let f = c.in-Some.ensures.value now.1 now.3 in
+    (now.0, f.1, now.2, f.4, subst (λ (vs : List Value). AllMeanAfter F n now.0 f.1 (map val vs)) (sym c.in-Ok.ensures.ok) (items_next F n now.0 now.1 f.1 f.0 c.loop-item.values c.in_ok-value.value f.2 (c.in_ok-value.ensures f.0 f.3) now.4))
 
 pub read_items-returns : goal.read_items-returns
 read_items-returns t c j begins =
     let F = value_of (tree c.args.ty.now) in
     let n = depth (tree c.args.ty.now) in
     let now = c.loop-item.invariant j begins in
-    let done : now.1 ≡ no_items = subst (λ (r : Option (List Token)). NextItem c.loop-item.items r c.next.new.self) c.in_default-next.is c.next.ensures.value now.1 now.3 in
+    let done : now.1 ≡ no_items = subst (λ (r : Option (List Token)). NextItem c.loop-item.items r c.next.new.self) c.in_default.is c.next.ensures.value now.1 now.3 in
     (now.0, now.2, items_end F n now.0 now.1 (map val c.loop-item.values) done now.4)
 
 pub read_members-loop-key-init : goal.read_members-loop-key-init
 read_members-loop-key-init t c =
     let ms = c.args.members.now in
-    let slots = c.in-Some-absent_slots.slots in
-    let empty = c.in-Some-absent_slots.ensures in record {
-      so_far = λ j begins. let shape = c.in-Some.ensures j begins in (shape.0, shape.0, shape.1, shape.2, members_begin ms (members_depth (members_tree ms)) shape.0 (map body_val slots) empty);
+    let slots = c.in_ok-slots.slots in
+    let empty = c.in_ok-slots.ensures in record {
+      so_far = λ j begins. let shape = c.in_ok-rest.ensures j begins in (shape.0, shape.0, shape.1, shape.2, members_begin ms (members_depth (members_tree ms)) shape.0 (map body_val slots) empty);
       as_many = sym (length-map slots body_val) ∙ ap length empty ∙ length-replicate (length ms) absent;
     }
 
@@ -63,9 +63,9 @@ pub read_members-read_member-requires : goal.read_members-read_member-requires
 read_members-read_member-requires t c =
     let ms = c.args.members.now in
     let m = c.index-members-at.result in
-    let at = c.in-Some-place_among.at in
+    let at = c.in_ok-at.at in
     let is = c.index-members-at.is in
-    let here = found_at ms c.in-Some-next.key.now at m (sym c.in-Some-place_among.ensures) is in
+    let here = found_at ms c.in-Some.key.now at m (sym c.in_ok-at.ensures) is in
     let within = here.0 in
     let faithful = faithful_at ms at m within is c.requires.faithful in
     let smaller = rw (← is) at (at_most member_laws.the_size ms at m within) in
@@ -76,15 +76,15 @@ read_members-loop-key-preserved t c =
     let ms = c.args.members.now in
     let n = members_depth (members_tree ms) in
     let m = c.index-members-at.result in
-    let at = c.in-Some-place_among.at in
+    let at = c.in_ok-at.at in
     let is = c.index-members-at.is in
     let becomes = c.fill.ensures in record {
       so_far = λ j begins.
           let now = c.loop-key.invariant.so_far j begins in
-          let f = c.in-Some-next.ensures.value now.1 now.3 in
-          let means = c.in-Some-read_member.ensures f.0 f.3 in
-          (now.0, f.1, now.2, f.4, members_next ms n now.0 now.1 f.1 c.in-Some-next.key.now f.0 at m (val c.in-Some-read_member.value) (map body_val c.loop-key.slots) (map body_val c.fill.new.slots) f.2 (sym c.in-Some-place_among.ensures) is c.requires.apart (le_refl n) means becomes now.4);
-      as_many = sym (length-map c.fill.new.slots body_val) ∙ ap length becomes ∙ length-set (map body_val c.loop-key.slots) at (present (val c.in-Some-read_member.value)) ∙ length-map c.loop-key.slots body_val ∙ c.loop-key.invariant.as_many;
+          let f = c.in-Some.ensures.value now.1 now.3 in
+          let means = c.in_ok-value.ensures f.0 f.3 in
+          (now.0, f.1, now.2, f.4, members_next ms n now.0 now.1 f.1 c.in-Some.key.now f.0 at m (val c.in_ok-value.value) (map body_val c.loop-key.slots) (map body_val c.fill.new.slots) f.2 (sym c.in_ok-at.ensures) is c.requires.apart (le_refl n) means becomes now.4);
+      as_many = sym (length-map c.fill.new.slots body_val) ∙ ap length becomes ∙ length-set (map body_val c.loop-key.slots) at (present (val c.in_ok-value.value)) ∙ length-map c.loop-key.slots body_val ∙ c.loop-key.invariant.as_many;
     }
 
 pub read_members-returns : goal.read_members-returns
@@ -92,28 +92,28 @@ read_members-returns t c j begins =
     let ms = members_tree c.args.members.now in
     let n = members_depth ms in
     let now = c.loop-key.invariant.so_far j begins in
-    let done : now.1 ≡ no_members = subst (λ r. NextMember c.loop-key.rest (option_map (λ m. (m.0.now, m.1)) r) c.next.new.self) c.in_default-next.is c.next.ensures.value now.1 now.3 in
+    let done : now.1 ≡ no_members = subst (λ r. NextMember c.loop-key.rest (option_map (λ m. (m.0.now, m.1)) r) c.next.new.self) c.in_default.is c.next.ensures.value now.1 now.3 in
     (now.0, now.2, members_end ms n now.0 now.1 (map body_val c.loop-key.slots) done now.4)
 
 pub read_sequence-returns : goal.read_sequence-returns
 read_sequence-returns t c j begins =
     let kind = c.args.kind.now in
     let within = ap (is_past kind.bound) (sym c.len.ensures) ∙ sym c.is_past.ensures ∙ c.if-is_past.false in
-    sequence_means kind c.args.part.now c.in-Some.values c.in-Some.ensures within j begins
+    sequence_means kind c.args.part.now c.in_ok-values.values c.in_ok-values.ensures within j begins
 
 pub read_array-returns : goal.read_array-returns
 read_array-returns t c j begins =
     let kind = c.args.kind.now in
-    let values = c.in-Some.values in
+    let values = c.in_ok-values.values in
     let small : length values < 18446744073709551615 = search rules in
     let same : length values ≡ min 18446744073709551615 (product kind.dims) = ap length (sym c.as_slice.ensures) ∙ c.if-count-elements_of.false ∙ c.elements_of.ensures ∙ ap (λ ds. min 18446744073709551615 (product ds)) c.as_slice-2.ensures in
-    array_means kind c.args.part.now values c.in-Some.ensures (omega (arith, same, small)) j begins
+    array_means kind c.args.part.now values c.in_ok-values.ensures (omega (arith, same, small)) j begins
 
 pub read_struct-returns : goal.read_struct-returns
 read_struct-returns t c j begins =
     let part = c.args.part.now in
-    let slots = c.in-Some.slots in
-    structure_means c.args.kind.now part slots (subst (λ (ms : List Member). ReadsMembers (members_tree ms) (members_depth (members_tree ms)) part (Some slots)) c.as_slice.ensures c.in-Some.ensures)
+    let slots = c.in_ok-slots.slots in
+    structure_means c.args.kind.now part slots (subst (λ (ms : List Member). ReadsMembers (members_tree ms) (members_depth (members_tree ms)) part (Some slots)) c.as_slice.ensures c.in_ok-slots.ensures)
     (ap₂ (λ (ms : List Member) (ss : List Slot). has_open (members_tree ms) (map body_val ss)) (sym c.as_slice-2.ensures) (sym c.as_slice-3.ensures) ∙ sym c.has_open_slot.ensures ∙ c.if-has_open_slot.false) j begins
 
 pub read_part-returns-in-Prim : goal.read_part-returns-in-Prim

@@ -3,7 +3,7 @@ use Rattle.std.specs.Prelude.{IfSome}
 use Rattle.fast_float.specs.Text.{scan}
 use Rattle.serde_json.specs.Find.{as_integer}
 use Rattle.serde_json.specs.Read.{number_of, number_from}
-use Rattle.dynamic_data.proofs.tapes.leaves.number_in.Goals as goal
+use Rattle.dynamic_data.proofs.tapes.leaves.whole_in_text.Goals as goal
 
 pub returns-then-has_minus : goal.returns-then-has_minus
 unfolding number_of
