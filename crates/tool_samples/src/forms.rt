@@ -6,7 +6,7 @@ ghost use Rattle.xcdr_model.specs.Samples.{sample};
 ghost use Rattle.packed_reader.specs.View.{packed_val};
 ghost use Rattle.tool_samples.specs.lines.Lines as lines;
 
-use crate::lines::{malformed_text, outcome_text, plain_sample_record, sample_record};
+use crate::lines::{MOST_OCTETS, malformed_text, outcome_text, plain_sample_record, sample_record};
 use packed_json::{Plan, write_value};
 use packed_reader::Packed;
 use settled_parts::Outcome;
@@ -61,8 +61,6 @@ pub trait Shows {
     fn malformed(&self, alloc: Global, ty: &XType, at: u64, why: Why) -> Result<Text, OutOfMemory>
         ensures { IfOk result (λ text. text ≡ piece self.now (tree ty.now) (Err (record { at = at; why = why }))) };
 }
-
-const MOST_OCTETS: usize = 1_048_576;
 
 // The beginning of a line of about so many octets.
 fn begun_line(alloc: Global, octets: usize) -> Option<Text>
@@ -176,8 +174,7 @@ fn value_record(alloc: Global, to: Rep, ty: &XType, value: &Value) -> Result<Tex
     }
 }
 
-// The record of a plain value's sample, or a Note where the sample has too many octets. It mostly has about as many as the sample that was
-// read. None says nothing.
+// The record of a plain value's sample, or a Note where the sample has too many octets. None says nothing.
 fn plain_record(
     alloc: Global,
     to: Rep,
@@ -188,7 +185,7 @@ fn plain_record(
     ensures { IfSome result (λ text. text ≡ lines.converted to (tree ty.now) (Ok (sample (packed_val value.now)))) }
 {
     sample_sized();
-    let text = plain_sample_record(alloc, to, ty, value, octets.min(MOST_OCTETS) + 64)?;
+    let text = plain_sample_record(alloc, to, ty, value, octets)?;
     if text.len() <= MOST_OCTETS + 5 {
         return Some(text);
     }

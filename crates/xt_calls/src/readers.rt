@@ -17,7 +17,7 @@ ghost use Rattle.xt_calls.specs.Opened.{front};
 use crate::answers::{
     Answer, DISCARDED, DONE, JSON, MALFORMED, MUST_UNDERSTAND, TOO_LARGE, refuse_words, said,
 };
-use crate::plain::plain_sample;
+use crate::plain::plain_answer;
 use crate::types::Types;
 use crate::words::{Floats, pair_of};
 use dynamic_data::{
@@ -26,7 +26,7 @@ use dynamic_data::{
 };
 use json::Scratch;
 use packed_json::{Plan, write_value};
-use packed_reader::read_plain;
+use packed_reader::{may_be_plain, read_plain};
 use settled_parts::Outcome;
 use std::alloc::Global;
 use tool_runs::output::Stop;
@@ -47,6 +47,7 @@ pub struct Reader {
     pub(crate) rep: Rep,
     pub(crate) ty: XType,
     plan: Option<Plan>,
+    may_be_taped: bool,
     has_floats: bool,
     ghost valid: { IsValid ty },
     ghost planned: { PlansFor (tree ty) plan },
@@ -126,39 +127,6 @@ fn shown(alloc: Global, floats: Floats, ty: &XType, plain: Answer) -> Result<Ans
     }
 }
 
-// The value of a text with raw bits for floats, read from a tape of its tokens. None says nothing.
-fn taped(alloc: Global, ty: &XType, json: &[u8]) -> Option<Value>
-    requires { IsValid ty.now }
-    ensures { IfSome result (λ value. read_as (tree ty.now) json.now ≡ Ok (val value)) }
-{
-    let mut scratch = Scratch::new(alloc);
-    read_taped(alloc, ty, json, &mut scratch)
-}
-
-// The value of a text with raw bits for floats.
-fn bits_meaning(alloc: Global, ty: &XType, json: &[u8]) -> Result<Value, ValueFault>
-    requires { IsValid ty.now }
-    ensures ok { IfOk result (λ value. read_as (tree ty.now) json.now ≡ Ok (val value)) }
-    ensures err { FailsAs (read_as (tree ty.now) json.now) result }
-{
-    match taped(alloc, ty, json) {
-        Some(value) => Ok(value),
-        None => from_json(alloc, ty, json),
-    }
-}
-
-// The value that a text in JSON means.
-fn meaning(alloc: Global, floats: Floats, ty: &XType, json: &[u8]) -> Result<Value, ValueFault>
-    requires { IsValid ty.now }
-    ensures ok { IfOk result (λ value. spec.meaning floats (tree ty.now) json.now ≡ Ok (val value)) }
-    ensures err { FailsAs (spec.meaning floats (tree ty.now) json.now) result }
-{
-    match floats {
-        Floats::Bits => bits_meaning(alloc, ty, json),
-        Floats::Numbers => from_numbers(alloc, ty, json),
-    }
-}
-
 fn refuse_value(alloc: Global, fault: ValueFault) -> Result<Answer, OutOfMemory>
     ensures answer { IfOk result (λ answer. answer ≡ spec.fault_answer fault) }
     ensures memory { IfOk result (λ _. fault ≡ NoMemory → ⊥) }
@@ -191,11 +159,13 @@ impl Reader {
         };
         let ty = assignable(alloc, &pair, types.declared.as_slice(), &types.pool)?;
         let plan = plan_for(alloc, pair.rep, &ty);
+        let may_be_taped = may_be_plain(&ty);
         let has_floats = has_floats(&ty);
         Ok(Reader {
             rep: pair.rep,
             ty,
             plan,
+            may_be_taped,
             has_floats,
         })
     }
@@ -269,7 +239,7 @@ impl Reader {
             return None;
         }
         let value = read_plain(alloc, self.rep, &self.ty, sample)?;
-        plain_sample(alloc, to, &self.ty, &value, sample.len())
+        plain_answer(alloc, to, &self.ty, &value, sample.len())
     }
 
     /// The same, as a sample in a representation.
@@ -293,6 +263,39 @@ impl Reader {
         }
     }
 
+    // The value of a text with raw bits for floats, read from a tape of its tokens. None says nothing.
+    fn taped(&self, alloc: Global, json: &[u8]) -> Option<Value>
+        ensures { IfSome result (λ value. read_as (tree self.now.ty) json.now ≡ Ok (val value)) }
+    {
+        if !self.may_be_taped {
+            return None;
+        }
+        let mut scratch = Scratch::new(alloc);
+        read_taped(alloc, &self.ty, json, &mut scratch)
+    }
+
+    // The value of a text with raw bits for floats.
+    fn bits_meaning(&self, alloc: Global, json: &[u8]) -> Result<Value, ValueFault>
+        ensures ok { IfOk result (λ value. read_as (tree self.now.ty) json.now ≡ Ok (val value)) }
+        ensures err { FailsAs (read_as (tree self.now.ty) json.now) result }
+    {
+        match self.taped(alloc, json) {
+            Some(value) => Ok(value),
+            None => from_json(alloc, &self.ty, json),
+        }
+    }
+
+    // The value that a text in JSON means.
+    fn meaning(&self, alloc: Global, floats: Floats, json: &[u8]) -> Result<Value, ValueFault>
+        ensures ok { IfOk result (λ value. spec.meaning floats (tree self.now.ty) json.now ≡ Ok (val value)) }
+        ensures err { FailsAs (spec.meaning floats (tree self.now.ty) json.now) result }
+    {
+        match floats {
+            Floats::Bits => self.bits_meaning(alloc, json),
+            Floats::Numbers => from_numbers(alloc, &self.ty, json),
+        }
+    }
+
     /// A value of the reader's type in JSON, as a sample in a representation.
     pub fn write(
         &self,
@@ -303,7 +306,7 @@ impl Reader {
     ) -> Result<Answer, OutOfMemory>
         ensures { IfOk result (λ answer. answer ≡ spec.written_answer to (tree self.now.ty) (spec.meaning floats (tree self.now.ty) json.now)) }
     {
-        match meaning(alloc, self.form(floats), &self.ty, json) {
+        match self.meaning(alloc, self.form(floats), json) {
             Ok(value) => sample_of(alloc, JSON, b"LARGE /", to, &self.ty, &value),
             Err(fault) => refuse_value(alloc, fault),
         }

@@ -19,6 +19,9 @@ use xt_io::{Failed, Kind, MemSink, Sink, write_whole};
 use xt_lists::{OutOfMemory, Text};
 use xt_shapes::{Order, Rep};
 
+/// The most octets that a sample has.
+pub const MOST_OCTETS: usize = 1_048_576;
+
 /// The record of a value's sample in little-endian order. The sample has at most 1,048,576 octets.
 pub fn sample_record(
     alloc: Global,
@@ -44,21 +47,36 @@ fn sample_head(octets: u32) -> [u8; 5]
     [Kind::Sample.octet(), first, second, third, fourth]
 }
 
-/// The record of a plain value's sample in little-endian order. The sample takes memory for so many octets at once. None says nothing.
+/// The sample of a plain value in little-endian order. It mostly has about as many octets as the sample that was read, for which memory is
+/// taken at once. None says nothing.
+pub fn plain_sample(
+    alloc: Global,
+    rep: Rep,
+    ty: &XType,
+    value: &Packed<'_>,
+    read: usize,
+) -> Option<Text>
+    ensures { IfSome result (λ text. text ≡ fixed_sample rep Order.Little (type_shape ty.now) (packed_val value.now)) }
+{
+    let Ok(front) = Vec::with_capacity(alloc, read.min(MOST_OCTETS) + 64) else {
+        return None;
+    };
+    let all = write_plain(rep, ty, value, front)?;
+    Some(Text::from_vec(all))
+}
+
+/// The record of a plain value's sample in little-endian order, by the octets of the sample that was read. None says nothing.
 pub fn plain_sample_record(
     alloc: Global,
     rep: Rep,
     ty: &XType,
     value: &Packed<'_>,
-    octets: usize,
+    read: usize,
 ) -> Option<Text>
     ensures { IfSome result (λ piece. piece ≡ record_octets Kind.Sample (fixed_sample rep Order.Little (type_shape ty.now) (packed_val value.now))) }
 {
-    let Ok(front) = Vec::with_capacity(alloc, octets) else {
-        return None;
-    };
-    let sample = write_plain(rep, ty, value, front)?;
-    match record(alloc, Kind::Sample, sample.as_slice()) {
+    let sample = plain_sample(alloc, rep, ty, value, read)?;
+    match record(alloc, Kind::Sample, sample.octets()) {
         Ok(piece) => Some(piece),
         Err(_) => None,
     }

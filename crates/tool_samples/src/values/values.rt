@@ -1,8 +1,11 @@
-ghost use Rattle.std.specs.Prelude.{◌≡◌};
+ghost use Rattle.std.specs.Prelude.{◌≡◌, is_some};
+ghost use Rattle.type_trees.specs.Bridge.{type_shape};
+ghost use Rattle.packed_reader.specs.Plain.{may_be_plain};
 ghost use Rattle.projection_laws.specs.Premises.{IsValid};
 
 use crate::values::writing::write_value;
 use json::Scratch;
+use packed_reader::may_be_plain;
 use std::alloc::Global;
 use tool_runs::output::{Payloads, Stop};
 use type_trees::XType;
@@ -15,22 +18,31 @@ use xt_shapes::Rep;
 pub struct Values {
     ty: XType,
     rep: Rep,
-    scratch: Scratch,
+    scratch: Option<Scratch>,
     ghost valid: { IsValid ty },
 }
 
+// What texts of the type are read from a tape with, where that may be.
+fn scratch_for(alloc: Global, ty: &XType) -> Option<Scratch>
+    ensures { is_some result ≡ may_be_plain (type_shape ty.now) }
+{
+    if may_be_plain(ty) {
+        Some(Scratch::new(alloc))
+    } else {
+        None
+    }
+}
+
 impl Values {
-    /// It takes no memory; what is read later is read in memory of this allocator.
+    /// It takes no memory; what is read later is read in memory of this allocator. Texts are read from a tape only where no union and no
+    /// map stands in the type.
     pub fn new(alloc: Global, ty: XType, rep: Rep) -> Values
         requires { IsValid ty }
         ensures ty { result.ty ≡ ty }
         ensures rep { result.rep ≡ rep }
     {
-        Values {
-            ty,
-            rep,
-            scratch: Scratch::new(alloc),
-        }
+        let scratch = scratch_for(alloc, &ty);
+        Values { ty, rep, scratch }
     }
 }
 

@@ -1,4 +1,4 @@
-ghost use Rattle.std.specs.Prelude.{◌≡◌, Ok, Some};
+ghost use Rattle.std.specs.Prelude.{◌≡◌, Ok, Some, IfSome};
 ghost use Rattle.type_trees.specs.View.{tree, val};
 ghost use Rattle.json_values.specs.Read.{read_as};
 ghost use Rattle.projection_laws.specs.Premises.{IsValid};
@@ -51,6 +51,17 @@ fn read_general(
     }
 }
 
+// The value of a JSON text, read from a tape where there is a scratch for that. None says nothing.
+fn taped(alloc: Global, ty: &XType, payload: &[u8], scratch: &mut Option<Scratch>) -> Option<Value>
+    requires { IsValid ty.now }
+    ensures { IfSome result (λ value. read_as (tree ty.now) payload.now ≡ Ok (val value)) }
+{
+    match scratch {
+        Some(scratch) => read_taped(alloc, ty, payload, scratch),
+        None => None,
+    }
+}
+
 // The value of a JSON text, with its sample's octets.
 fn read_value(
     alloc: Global,
@@ -58,26 +69,26 @@ fn read_value(
     rep: Rep,
     number: u32,
     payload: &[u8],
-    scratch: &mut Scratch,
+    scratch: &mut Option<Scratch>,
 ) -> Result<(Value, u32), Stop>
     requires { IsValid ty.now }
     ensures { TurnsTo rep (tree ty.now) (lines.written rep (tree ty.now) number (read_as (tree ty.now) payload.now)) result }
 {
-    match read_taped(alloc, ty, payload, scratch) {
+    match taped(alloc, ty, payload, scratch) {
         Some(value) => sized(alloc, ty, rep, number, value),
         None => read_general(alloc, ty, rep, number, payload),
     }
 }
 
 /// Writes the record of the sample of a JSON value, the payload of the record of this number. A refusal is not written yet. The scratch is
-/// kept from text to text.
+/// kept from text to text; with none the text isn't read from a tape.
 pub fn write_value<K: Sink>(
     alloc: Global,
     ty: &XType,
     rep: Rep,
     number: u32,
     payload: &[u8],
-    scratch: &mut Scratch,
+    scratch: &mut Option<Scratch>,
     sink: &mut K,
 ) -> Result<(), Stop>
     requires { IsValid ty.now }
