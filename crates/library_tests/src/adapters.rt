@@ -50,16 +50,13 @@ impl io::Write for Device {
 fn reads_through_a_reader_of_std(rt: HostRuntime) -> Result<(), Fail> {
     let mut into = [0u8; 4];
     let mut source = ReadSource::new(b"abc".as_slice());
-    assert_eq!(rt; source.read(&mut into), Ok(3));
-    assert_eq!(rt; into, *b"abc\0");
-    assert_eq!(rt; source.read(&mut into), Ok(0));
+    assert!(rt; source.read(&mut into) == Ok(3) && into == *b"abc\0");
+    assert!(rt; source.read(&mut into) == Ok(0));
     let device = BufReader::with_capacity(rt.alloc(), 2, Device { calls: 0 })?;
     let mut failing = ReadSource::new(device);
-    assert_eq!(rt; failing.read(&mut into), Ok(1));
-    assert_eq!(rt; into, *b"\x07bc\0");
-    assert_eq!(rt; failing.read(&mut into), Err(Failed));
-    assert_eq!(rt; failing.read(&mut into), Ok(0));
-    assert_eq!(rt; failing.faults(), 1);
+    assert!(rt; failing.read(&mut into) == Ok(1) && into == *b"\x07bc\0");
+    assert!(rt; failing.read(&mut into) == Err(Failed) && failing.read(&mut into) == Ok(0));
+    assert!(rt; failing.faults() == 1);
     Ok(())
 }
 
@@ -69,15 +66,10 @@ fn what_is_read_ahead_is_at_hand(rt: HostRuntime) -> Result<(), Fail> {
     let ahead = BufReader::with_capacity(rt.alloc(), 3, b"abcde".as_slice())?;
     let mut source = ReadSource::new(ahead);
     let mut into = [0u8; 2];
-    assert_eq!(rt; source.at_hand(), 0);
-    assert_eq!(rt; source.read(&mut []), Ok(0));
-    assert_eq!(rt; source.at_hand(), 0);
-    assert_eq!(rt; source.read(&mut into), Ok(2));
-    assert_eq!(rt; source.at_hand(), 1);
-    assert_eq!(rt; source.read(&mut into), Ok(1));
-    assert_eq!(rt; source.at_hand(), 0);
-    assert_eq!(rt; source.read(&mut into), Ok(2));
-    assert_eq!(rt; source.read(&mut into), Ok(0));
+    assert!(rt; source.at_hand() == 0 && source.read(&mut []) == Ok(0) && source.at_hand() == 0);
+    assert!(rt; source.read(&mut into) == Ok(2) && source.at_hand() == 1);
+    assert!(rt; source.read(&mut into) == Ok(1) && source.at_hand() == 0);
+    assert!(rt; source.read(&mut into) == Ok(2) && source.read(&mut into) == Ok(0));
     Ok(())
 }
 
@@ -87,29 +79,23 @@ fn what_a_reader_of_bundles_has_at_hand(rt: HostRuntime) -> Result<(), Fail> {
     let octets = b"\x05\0\0\0\x02ab\x05\0\0\0\x01c";
     let ahead = BufReader::with_capacity(rt.alloc(), 8, octets.as_slice())?;
     let mut reader = BundleReader::new(ReadSource::new(ahead));
-    assert_eq!(rt; reader.has_head(), false);
-    assert_eq!(rt; reader.next_head().is_ok(), true);
-    assert_eq!(rt; reader.has_payload(), true);
-    assert_eq!(rt; reader.at_hand(), 2);
-    assert_eq!(rt; reader.has_head(), false);
-    assert_eq!(rt; reader.next_head().is_ok(), true);
-    assert_eq!(rt; reader.has_payload(), true);
+    assert!(rt; !reader.has_head() && reader.next_head().is_ok());
+    assert!(rt; reader.has_payload() && reader.at_hand() == 2);
+    assert!(rt; !reader.has_head() && reader.next_head().is_ok() && reader.has_payload());
     Ok(())
 }
 
 #[test]
 fn writes_through_a_writer_of_std(rt: HostRuntime) {
     let mut sink = WriteSink::new(Vec::new(rt.alloc()));
-    assert_eq!(rt; write_whole(&mut sink, b"abc"), Ok(()));
-    assert_eq!(rt; sink.into_inner().as_slice(), b"abc".as_slice());
+    assert!(rt; write_whole(&mut sink, b"abc") == Ok(()));
+    assert!(rt; sink.into_inner().as_slice() == b"abc".as_slice());
     let mut failing = WriteSink::new(Device { calls: 0 });
-    assert_eq!(rt; failing.write(b"ab"), Ok(1));
-    assert_eq!(rt; failing.write(b"b"), Err(Failed));
-    assert_eq!(rt; failing.faults(), 1);
+    assert!(rt; failing.write(b"ab") == Ok(1) && failing.write(b"b") == Err(Failed));
+    assert!(rt; failing.faults() == 1);
     // A write that takes nothing is a fault, unless there is nothing to take.
-    assert_eq!(rt; failing.write(b"b"), Err(Failed));
-    assert_eq!(rt; failing.faults(), 2);
-    assert_eq!(rt; failing.write(b""), Ok(0));
+    assert!(rt; failing.write(b"b") == Err(Failed) && failing.faults() == 2);
+    assert!(rt; failing.write(b"") == Ok(0));
 }
 
 // The first octets that came over a connection from one end to the other and back, and how many doors were opened.
@@ -141,7 +127,7 @@ fn talk<R: System<Stream = TcpStream, Listener = TcpListener>>(
 
 #[test]
 fn links_and_doors_over_loopback(rt: HostRuntime) {
-    assert_eq!(rt; talk(&rt, rt.alloc()), Some((3, 7, 2)));
+    assert!(rt; talk(&rt, rt.alloc()) == Some((3, 7, 2)));
 }
 
 #[test]
@@ -149,9 +135,9 @@ fn an_address_that_is_none_is_a_fault(rt: HostRuntime) -> Result<(), OutOfMemory
     let alloc = rt.alloc();
     let nowhere = Text::from_octets(alloc, b"nowhere")?;
     let mut net = TcpNet::new(&rt);
-    assert_eq!(rt; net.connect(alloc, &nowhere).err(), Some(NetFault::Failed));
-    assert_eq!(rt; net.doors(alloc, &nowhere, 1).err(), Some(NetFault::Failed));
-    assert_eq!(rt; net.faults(), 2);
+    assert!(rt; net.connect(alloc, &nowhere).err() == Some(NetFault::Failed));
+    assert!(rt; net.doors(alloc, &nowhere, 1).err() == Some(NetFault::Failed));
+    assert!(rt; net.faults() == 2);
     Ok(())
 }
 
@@ -159,12 +145,10 @@ fn an_address_that_is_none_is_a_fault(rt: HostRuntime) -> Result<(), OutOfMemory
 fn what_never_fails(rt: HostRuntime) {
     let mut into = [0u8; 2];
     let mut source = SureSource::new(b"abc");
-    assert_eq!(rt; source.read(&mut into), Ok(2));
-    assert_eq!(rt; source.read(&mut into), Ok(1));
-    assert_eq!(rt; into, *b"cb");
+    assert!(rt;
+        source.read(&mut into) == Ok(2) && source.read(&mut into) == Ok(1) && into == *b"cb"
+    );
     let mut link = SureLink::new(b"abc");
-    assert_eq!(rt; link.write(b"de"), Ok(2));
-    assert_eq!(rt; link.read(&mut into), Ok(2));
-    assert_eq!(rt; into, *b"ab");
-    assert_eq!(rt; write_whole(&mut SureSink, b"abc"), Ok(()));
+    assert!(rt; link.write(b"de") == Ok(2) && link.read(&mut into) == Ok(2) && into == *b"ab");
+    assert!(rt; write_whole(&mut SureSink, b"abc") == Ok(()));
 }

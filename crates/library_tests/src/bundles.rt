@@ -11,15 +11,15 @@ fn a_read_that_fails(rt: HostRuntime) {
     let alloc = rt.alloc();
     let mut into = [0u8; 20];
     let mut reader = BundleReader::new(MemSource::new(IDL, 64, &[3]));
-    assert!(rt; reader.next_head().is_ok());
-    assert!(rt; reader.read(&mut into).is_err());
-    assert_eq!(rt; reader.next_head(), Err(RecordFault::ReadFault));
-    assert_eq!(rt; reader.payload(alloc).err(), Some(RecordFault::ReadFault));
-    assert_eq!(rt; reader.read(&mut into), Ok(20));
-    assert_eq!(rt; reader.read(&mut into), Ok(5));
-    assert_eq!(rt; reader.read(&mut into), Ok(0));
-    assert_eq!(rt; reader.next_item(alloc).err(), Some(RecordFault::ReadFault));
-    assert_eq!(rt; reader.end().faults(), 1);
+    assert!(rt; reader.next_head().is_ok() && reader.read(&mut into).is_err());
+    assert!(rt;
+        reader.next_head() == Err(RecordFault::ReadFault)
+            && reader.payload(alloc).err() == Some(RecordFault::ReadFault)
+    );
+    assert!(rt; reader.read(&mut into) == Ok(20) && reader.read(&mut into) == Ok(5));
+    assert!(rt; reader.read(&mut into) == Ok(0));
+    assert!(rt; reader.next_item(alloc).err() == Some(RecordFault::ReadFault));
+    assert!(rt; reader.end().faults() == 1);
 }
 
 // A payload that was read in part is passed over.
@@ -30,13 +30,11 @@ fn the_rest_of_a_payload_is_passed_over(rt: HostRuntime) -> Result<(), Fail> {
     let mut reader = BundleReader::new(SureSource::new(
         b"\x05\x00\x00\x00\x03abc\x05\x00\x00\x00\x02de",
     ));
-    assert!(rt; reader.next_head().is_ok());
-    assert_eq!(rt; reader.read(&mut into), Ok(2));
+    assert!(rt; reader.next_head().is_ok() && reader.read(&mut into) == Ok(2));
     let Some(item) = reader.next_item(alloc)? else {
         assert!(rt; false);
         return Ok(());
     };
-    assert_eq!(rt; item.payload.octets(), b"de".as_slice());
-    assert_eq!(rt; item.at, 8);
+    assert!(rt; item.payload.octets() == b"de".as_slice() && item.at == 8);
     Ok(())
 }

@@ -4,7 +4,6 @@ ghost use Rattle.type_mirror.specs.told.Pushes.{MayPush};
 use crate::namings::Alike;
 use crate::objects::{alone, object};
 use std::alloc::Global;
-use std::test::Fail;
 use tool_nets::clients::mirror_objects;
 use tool_runs::output::Ending;
 use type_lookup::messages::Fetched;
@@ -53,11 +52,10 @@ fn pushes(alloc: Global, mut net: MemNet, objects: &Row<Fetched>, text: &[u8]) -
 }
 
 #[test]
-fn an_object_clashes(rt: HostRuntime) -> Result<(), Fail> {
+fn an_object_clashes(rt: HostRuntime) {
     let alloc = rt.alloc();
     let link = script(alloc, CLASHES, 0).expect(&rt, "memory");
     let net = net(alloc, link, 0).expect(&rt, "memory");
     let objects = alone::<Alike>(alloc, &object(1)).expect(&rt, "an object");
     assert!(rt; pushes(alloc, net, &objects, CLASH));
-    Ok(())
 }

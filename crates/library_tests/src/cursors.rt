@@ -69,29 +69,44 @@ fn first_payload<S: Source + Drop>(source: S) -> Option<StreamCursor<S>> {
     }
 }
 
-#[test]
-fn however_the_octets_are_cut(rt: HostRuntime) -> Result<(), Fail> {
-    let told = run(rt.alloc(), &mut SliceCursor::new(&BUNDLE[5..21]))?;
-    for most in [1, 2, 3, 7, 64] {
-        let mut cursor = first_payload(MemSource::new(BUNDLE, most, &[])).ok_or("no head")?;
-        let read = run(rt.alloc(), &mut cursor)?;
-        assert_eq!(rt; read.octets(), told.octets(), "{most} at a time");
+// What a cursor over the payload gives whose source gives at most so many octets in a call.
+fn streamed(alloc: Global, most: usize) -> Option<Text> {
+    let mut cursor = first_payload(MemSource::new(BUNDLE, most, &[]))?;
+    run(alloc, &mut cursor).ok()
+}
+
+fn is_streamed(alloc: Global, most: usize, told: &Text) -> bool {
+    match streamed(alloc, most) {
+        Some(read) => read.octets() == told.octets(),
+        None => false,
     }
-    Ok(())
+}
+
+#[test]
+fn however_the_octets_are_cut(rt: HostRuntime) {
+    let alloc = rt.alloc();
+    let Ok(told) = run(alloc, &mut SliceCursor::new(&BUNDLE[5..21])) else {
+        panic!(rt; "memory was wanting");
+    };
+    for most in [1, 2, 3, 7, 64] {
+        assert!(rt; is_streamed(alloc, most, &told));
+    }
 }
 
 #[test]
 fn a_payload_that_is_cut(rt: HostRuntime) -> Result<(), Fail> {
     let mut octets = [0u8; 12];
     let mut cursor = first_payload(MemSource::new(&BUNDLE[..15], 3, &[])).ok_or("no head")?;
-    assert_eq!(rt; cursor.take(&mut octets[..8]), Ok(()));
-    assert_eq!(rt; cursor.take(&mut octets[..3]), Err(CutFault::Fault));
-    assert_eq!(rt; cursor.pass(1), Err(CutFault::Fault));
+    assert!(rt; cursor.take(&mut octets[..8]) == Ok(()));
+    assert!(rt;
+        cursor.take(&mut octets[..3]) == Err(CutFault::Fault)
+            && cursor.pass(1) == Err(CutFault::Fault)
+    );
     let cut = RecordFault::Truncated {
         at: 0,
         kind: Kind::Sample,
     };
-    assert_eq!(rt; cursor.end().next_head(), Err(cut));
+    assert!(rt; cursor.end().next_head() == Err(cut));
     Ok(())
 }
 
@@ -99,12 +114,10 @@ fn a_payload_that_is_cut(rt: HostRuntime) -> Result<(), Fail> {
 fn a_source_that_fails(rt: HostRuntime) -> Result<(), Fail> {
     let mut octets = [0u8; 12];
     let mut cursor = first_payload(MemSource::new(BUNDLE, 7, &[4])).ok_or("no head")?;
-    assert_eq!(rt; cursor.take(&mut octets), Err(CutFault::Fault));
-    assert_eq!(rt; cursor.place(), 7);
+    assert!(rt; cursor.take(&mut octets) == Err(CutFault::Fault) && cursor.place() == 7);
     let mut next = [0u8; 2];
-    assert_eq!(rt; cursor.take(&mut next), Ok(()));
-    assert_eq!(rt; next, *b"hi");
-    assert_eq!(rt; cursor.end().next_head(), Err(RecordFault::ReadFault));
+    assert!(rt; cursor.take(&mut next) == Ok(()) && next == *b"hi");
+    assert!(rt; cursor.end().next_head() == Err(RecordFault::ReadFault));
     Ok(())
 }
 
@@ -113,13 +126,10 @@ fn a_source_that_fails(rt: HostRuntime) -> Result<(), Fail> {
 fn the_rest_is_left(rt: HostRuntime) -> Result<(), Fail> {
     let mut octets = [0u8; 3];
     let mut cursor = first_payload(MemSource::new(BUNDLE, 2, &[])).ok_or("no head")?;
-    assert_eq!(rt; cursor.take(&mut octets), Ok(()));
+    assert!(rt; cursor.take(&mut octets) == Ok(()));
     let mut reader = cursor.end();
-    assert_eq!(rt;
-        reader.payload(rt.alloc())?.octets(),
-        b"defghijklmnop".as_slice()
-    );
+    assert!(rt; reader.payload(rt.alloc())?.octets() == b"defghijklmnop".as_slice());
     let behind = reader.next_item(rt.alloc())?.ok_or("no record")?;
-    assert_eq!(rt; behind.payload.octets(), b"qr".as_slice());
+    assert!(rt; behind.payload.octets() == b"qr".as_slice());
     Ok(())
 }

@@ -8,7 +8,6 @@ use crate::pushes::tells;
 use lookup_fetch::{FetchFault, fetch};
 use lookup_service::link::LoopLink;
 use std::alloc::Global;
-use std::test::Fail;
 use type_lookup::messages::Fetched;
 use type_object::hash_of;
 use type_registry::{Md5Naming, Registry};
@@ -34,7 +33,7 @@ fn fetch_text(alloc: Global, peer: &mut LoopLink<'_>, id: HashId) -> Result<Text
 
 // What was pushed over one link is fetched over another, whose pass knew nothing.
 #[test]
-fn what_was_pushed_is_fetched(rt: HostRuntime) -> Result<(), Fail> {
+fn what_was_pushed_is_fetched(rt: HostRuntime) {
     let alloc = rt.alloc();
     let registry: Registry<Md5Naming> = Registry::new(alloc);
     let color = alone::<Md5Naming>(alloc, &COLOR).expect(&rt, "an object");
@@ -45,9 +44,8 @@ fn what_was_pushed_is_fetched(rt: HostRuntime) -> Result<(), Fail> {
     };
     let mut taker = LoopLink::new(alloc, &registry, 1);
     let fetched = fetch_text(alloc, &mut taker, id).expect(&rt, "it is fetched");
-    assert_eq!(rt; fetched.octets(), &COLOR[..]);
-    assert_eq!(rt; taker.octets().len(), 32);
-    Ok(())
+    assert!(rt; fetched.octets() == &COLOR[..]);
+    assert!(rt; taker.octets().len() == 32);
 }
 
 // So many identifiers.
@@ -65,13 +63,12 @@ fn strangers(alloc: Global, count: u16) -> Result<Row<HashId>, OutOfMemory>
 
 // Nothing is sent where more identifiers are wanted than a fetch meets.
 #[test]
-fn too_many_are_not_asked_for(rt: HostRuntime) -> Result<(), Fail> {
+fn too_many_are_not_asked_for(rt: HostRuntime) {
     let alloc = rt.alloc();
     let registry: Registry<Md5Naming> = Registry::new(alloc);
     let ids = strangers(alloc, 4097).expect(&rt, "memory");
     let mut peer = LoopLink::new(alloc, &registry, 50);
     let fault = fetch(alloc, &mut peer, ids.as_slice()).err();
-    assert_eq!(rt; fault, Some(FetchFault::TooMany));
+    assert!(rt; fault == Some(FetchFault::TooMany));
     assert!(rt; peer.octets().is_empty());
-    Ok(())
 }

@@ -7,7 +7,6 @@ use pair_judge::{Steps, Verdict, judge_pairs};
 use std::alloc::Global;
 use std::marker::Brand;
 use std::sync::ledger::{Blank, Ledger};
-use std::test::Fail;
 use type_object::Pool;
 use xt_shapes::Rep;
 
@@ -45,11 +44,10 @@ fn said(alloc: Global, reader: &[u8], writer: &[u8]) -> Option<&'static str> {
 
 // A structure is assignable from itself, and not from one whose member of the same id has another name.
 #[test]
-fn objects_are_judged(rt: HostRuntime) -> Result<(), Fail> {
+fn objects_are_judged(rt: HostRuntime) {
     let alloc = rt.alloc();
     let same = said(alloc, &COLOR, &COLOR);
-    assert_eq!(rt; same, Some("yes"));
+    assert!(rt; same == Some("yes"));
     let other = said(alloc, &COLOR, &object(0));
-    assert_eq!(rt; other, Some("NAMES"));
-    Ok(())
+    assert!(rt; other == Some("NAMES"));
 }

@@ -5,7 +5,6 @@ ghost use Rattle.std.specs.List.{All};
 use lookup_service::workers::{Gate, NoGate, Seat, ServeFault, serve_workers};
 use std::alloc::Global;
 use std::sync::atomic::{AtomicU64, Ordering};
-use std::test::Fail;
 use std::thread;
 use type_registry::{Md5Naming, Registry};
 use xt_io::{Door, MemDoor, Script, Turn};
@@ -107,7 +106,7 @@ impl Gate for Both {
 }
 
 #[test]
-fn two_workers_hold_their_sessions_beside_each_other(rt: HostRuntime) -> Result<(), Fail> {
+fn two_workers_hold_their_sessions_beside_each_other(rt: HostRuntime) {
     let alloc = rt.alloc();
     let registry: Registry<Md5Naming> = Registry::new(alloc);
     let mut seats = seats(alloc, &registry, &[0, 0]).expect(&rt, "memory");
@@ -118,31 +117,29 @@ fn two_workers_hold_their_sessions_beside_each_other(rt: HostRuntime) -> Result<
         late: AtomicU64::new(0),
     };
     let served = serve_workers(&rt, alloc, &registry, &mut seats, 2, &gate);
-    assert_eq!(rt; served, Ok(4));
-    assert_eq!(rt; gate.late.load(Ordering::SeqCst), 0);
-    assert_eq!(rt; gate.calls.load(Ordering::SeqCst), 8);
-    assert_eq!(rt; gate.firsts.load(Ordering::SeqCst), 4);
-    assert_eq!(rt; gate.seconds.load(Ordering::SeqCst), 4);
+    assert!(rt; served == Ok(4));
+    assert!(rt; gate.late.load(Ordering::SeqCst) == 0 && gate.calls.load(Ordering::SeqCst) == 8);
+    assert!(rt;
+        gate.firsts.load(Ordering::SeqCst) == 4 && gate.seconds.load(Ordering::SeqCst) == 4
+    );
     for seat in seats.as_slice() {
-        assert_eq!(rt; held(&seat.door), 2);
+        assert!(rt; held(&seat.door) == 2);
     }
-    Ok(())
 }
 
 #[test]
-fn a_door_that_fails_ends_its_own_worker(rt: HostRuntime) -> Result<(), Fail> {
+fn a_door_that_fails_ends_its_own_worker(rt: HostRuntime) {
     let alloc = rt.alloc();
     let registry: Registry<Md5Naming> = Registry::new(alloc);
     let mut none = seats(alloc, &registry, &[]).expect(&rt, "memory");
     let served = serve_workers(&rt, alloc, &registry, &mut none, 2, &NoGate);
-    assert_eq!(rt; served, Ok(0));
+    assert!(rt; served == Ok(0));
     let mut seats = seats(alloc, &registry, &[0, 0, 0, 2, 0]).expect(&rt, "memory");
     let served = serve_workers(&rt, alloc, &registry, &mut seats, 2, &NoGate);
-    assert_eq!(rt; served, Err(ServeFault::DoorFault));
+    assert!(rt; served == Err(ServeFault::DoorFault));
     let all = seats.as_slice();
     let sessions = [2, 2, 2, 1, 2];
     for (seat, count) in all.iter().zip(sessions) {
-        assert_eq!(rt; held(&seat.door), count);
+        assert!(rt; held(&seat.door) == count);
     }
-    Ok(())
 }
