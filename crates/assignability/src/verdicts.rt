@@ -11,6 +11,7 @@ ghost use Rattle.xt_shapes.specs.NodeRules.{rules_hold};
 use crate::equal::equivalent;
 use crate::failures::failure;
 use crate::verdict::{Failure, Verdict, here};
+use node_judge::asks_equal;
 use type_trees::XType;
 use xcdr_model::{Policy, Rule};
 use xt_shapes::Rep;
@@ -21,7 +22,7 @@ fn first_failure(policy: &Policy, rep: Rep, t1: &XType, t2: &XType) -> Option<Fa
     requires { depth (tree t1.now) ≤ 16 }
     ensures { failure_view result ≡ spec.first_failure policy.now rep (type_shape t1.now) (type_shape t2.now) }
 {
-    if !policy.coercion && !equivalent(t1, t2) {
+    if asks_equal(policy) && !equivalent(t1, t2) {
         return Some(here(Rule::Coercion));
     }
     failure(policy, rep, true, t1, t2)

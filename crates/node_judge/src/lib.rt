@@ -10,6 +10,7 @@ mod literals;
 mod marks;
 mod members;
 mod objects;
+mod policies;
 mod trees;
 mod views;
 
@@ -25,4 +26,5 @@ pub use members::{
     any_key, common_member, has_member, ids_within, needs_within, same_counted, same_names,
     same_places,
 };
+pub use policies::asks_equal;
 pub use views::{CaseView, FlagView, LiteralView, MemberView};

@@ -21,7 +21,8 @@ use crate::numbers::write_numbers;
 use crate::params::{put_end, put_long, put_short};
 use packed_reader::{Numbers, Packed, PackedSlot};
 use type_trees::{Member, StructType, XType, as_prim};
-use xcdr_writer::{header_of, is_bare, is_must, is_short, length_code};
+use value_writer::{header_of, is_must, length_code};
+use xcdr_writer::{is_bare, is_short};
 use xt_shapes::{Ext, Rep};
 use xt_wire::numbers::{enum_size, mask_size, prim_size, scalar_size};
 

@@ -15,7 +15,7 @@ use crate::enums::enum_rules;
 use crate::question::Question;
 use crate::stops::{Stop, beneath, rule};
 use node_judge::{
-    common_member, default_case, holds_bound, ids_within, label_sets, needs_within,
+    asks_equal, common_member, default_case, holds_bound, ids_within, label_sets, needs_within,
     same_case_names, same_dims, same_ext, same_names, same_places, select,
 };
 use object_formats::{ObjectCase, ObjectMember, TypeIdentifier};
@@ -510,7 +510,7 @@ impl<'p> Question<'p> {
         ensures so { IsKept self.now memo.new }
         ensures count { steps.new + length memo.old ≡ steps.old + length memo.new }
     {
-        if self.policy.coercion {
+        if !asks_equal(self.policy) {
             return Ok(());
         }
         let same = self.same(memo, steps, 16, left, right)?;

@@ -24,7 +24,7 @@ use Rattle.tool_verdicts.specs.Versions as spec
 use Rattle.tool_verdicts.specs.Versions.{Finding, any_breaks, behind, between, breaks, ending_of, finding_line, findings, telling, versions}
 use Rattle.tool_verdicts.specs.Reports.{lines_of, version_view}
 use Rattle.tool_commands.specs.Comparing.{behind_last, next_findings, remaining, telling_on}
-use Rattle.tool_commands.specs.declared.comparing.Progress.{Progress}
+use Rattle.tool_verdicts.specs.declared.versions.progress.Progress.{Progress}
 
 -- ---- lines
 

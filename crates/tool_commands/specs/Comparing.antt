@@ -10,7 +10,7 @@ use Rattle.tool_verdicts.specs.Versions as spec
 use Rattle.tool_verdicts.specs.Versions.{Finding, between, behind, findings, telling, versions}
 use Rattle.tool_verdicts.specs.Reports.{version_view}
 use Rattle.tool_verdicts.specs.declared.judging.Terms.{Terms}
-use Rattle.tool_commands.specs.declared.comparing.Progress.{Progress}
+use Rattle.tool_verdicts.specs.declared.versions.progress.Progress.{Progress}
 
 -- behind the last version that there was, if there was one
 abbrev pub behind_last : Policy → Rep → Option spec.Version → List spec.Version → List Finding

@@ -11,11 +11,11 @@ ghost use Rattle.tool_verdicts.specs.Reports.{IsVersion, version_view};
 ghost use Rattle.tool_commands.specs.Comparing.{remaining_on, remaining_under, telling_from, telling_on};
 
 use std::alloc::Global;
-use tool_runs::output::{Cause, Ending, Halt, Stop, Style};
+use tool_runs::output::{Ending, Halt, Stop, Style};
 use tool_runs::{Answers, say_pieces};
 use tool_types::{Declared, declare};
 use tool_verdicts::Terms;
-use tool_verdicts::versions::{Version, between};
+use tool_verdicts::versions::{Progress, Version, between, ending_of};
 use type_object::Pool;
 use xt_io::{Item, Sink};
 
@@ -23,13 +23,6 @@ use xt_io::{Item, Sink};
 #[derive(Clone, Copy)]
 pub struct Comparing {
     pub terms: Terms,
-}
-
-/// The last version so far, and whether something breaks so far.
-#[derive(Clone, Copy)]
-pub struct Progress<'a> {
-    older: Option<Version<'a>>,
-    broke: bool,
 }
 
 fn either(one: bool, other: bool) -> bool
@@ -90,21 +83,8 @@ fn tell_record<'a, K: Sink>(
                 ids: ids.as_slice(),
             };
             let broke = tell_version(alloc, terms, pool, &progress, &newer, sink)?;
-            Ok(Progress {
-                older: Some(newer),
-                broke,
-            })
+            Ok(progress.followed(newer, broke))
         }
-    }
-}
-
-fn ending_of(broke: bool) -> Ending
-    ensures { result ≡ spec.ending_of broke }
-{
-    if broke {
-        Ending::Refused(Cause::No)
-    } else {
-        Ending::Done
     }
 }
 

@@ -5,6 +5,7 @@ mod ending;
 mod halt;
 mod payloads;
 mod saying;
+mod status;
 mod stop;
 mod turns;
 
@@ -12,5 +13,6 @@ pub use ending::{Cause, Ending, Style};
 pub use halt::Halt;
 pub use payloads::Payloads;
 pub use saying::{last, line, record, refuse_bundle, refuse_fault, say};
+pub use status::{Status, status_of};
 pub use stop::{Refused, Stop};
 pub use turns::{Next, Turns, is_sample, next_of, pass_other, payload_of, run_body, stop_for};

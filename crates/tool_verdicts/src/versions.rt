@@ -2,8 +2,10 @@
 
 mod changes;
 mod comparing;
+mod progress;
 mod reports;
 
 pub use changes::Change;
 pub use comparing::{Version, between};
+pub use progress::{Progress, ending_of};
 pub use reports::Report;

@@ -11,7 +11,6 @@ ghost use Rattle.xcdr_steps.specs.reading.Indices.{index_of};
 use settled_parts::{MemberSlots, Part, slot_from};
 use std::alloc::Global;
 use type_trees::Member;
-use xcdr_model::Why;
 use xcdr_steps::index::MemberIndex;
 use xcdr_steps::reading::{Header, find_member};
 use xt_lists::OutOfMemory;
@@ -88,15 +87,7 @@ impl Known {
     {
         match self.find(members, header.id) {
             None => Ok(None),
-            Some(at) => {
-                if self.slots.has(at) {
-                    return Err(DecodeFault::Malformed {
-                        at: header.at,
-                        why: Why::Twice,
-                    });
-                }
-                Ok(Some(at))
-            }
+            Some(at) => Ok(Some(header.once(at, self.slots.has(at))?)),
         }
     }
 

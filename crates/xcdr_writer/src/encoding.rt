@@ -17,7 +17,6 @@ ghost use Rattle.xcdr_model.specs.Numbers as numbers;
 ghost use Rattle.xcdr_writer.specs.Parts as parts;
 ghost use Rattle.xcdr_writer.specs.Parts.{slot_in, piece_in, members_of, pieces_of, case_of, items_fixed, counted_items, entries_fixed, counted_entries, sequence_fixed, array_fixed, map_fixed, mutable_fixed, structure_fixed, selected_fixed, mutable_union, union_fixed, presence_fixed};
 
-use crate::codes::{header_of, is_must, length_code};
 use crate::ends::{
     are_bare, are_bare_entries, end_of_counted, end_of_counted_entries, end_of_items,
     end_of_members, end_of_pieces, end_of_present, end_of_selected, end_of_value,
@@ -29,7 +28,8 @@ use type_trees::{
     as_prim, select,
 };
 use value_writer::{
-    body_in, disc_in, entries_in, items_in, number_in, octets_in, put_run, slot_at, slots_in,
+    body_in, disc_in, entries_in, header_of, is_must, items_in, length_code, number_in, octets_in,
+    put_run, slot_at, slots_in,
 };
 use xt_outside::{Failed, Sink};
 use xt_shapes::{Ext, Rep};

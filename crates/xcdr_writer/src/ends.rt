@@ -15,7 +15,6 @@ ghost use Rattle.value_writer.specs.Slots.{slot_of};
 ghost use Rattle.xcdr_writer.specs.Parts as parts;
 ghost use Rattle.xcdr_writer.specs.Parts.{slot_in, piece_in, members_of, pieces_of, case_of, items_fixed, counted_items, entries_fixed, counted_entries, sequence_fixed, array_fixed, map_fixed, mutable_fixed, structure_fixed, selected_fixed, union_fixed, mutable_union, header_end, param_header_end, presence_end, delimiter_end};
 
-use crate::codes::length_code;
 use crate::forms::{is_bare, is_short, most_of};
 use type_trees::{
     ArrayType, Case, MapType, Member, Pair, SeqType, Slot, StructType, UnionType, Value, XType,
@@ -23,7 +22,7 @@ use type_trees::{
 };
 use value_writer::{
     TOO_FAR, body_in, disc_in, end_of_number, end_of_octets, end_of_run, entries_in, items_in,
-    octets_in, slot_at, slots_in,
+    length_code, octets_in, slot_at, slots_in,
 };
 use xt_shapes::{Ext, Rep};
 use xt_wire::numbers::{enum_size, mask_size, prim_size, scalar_size};

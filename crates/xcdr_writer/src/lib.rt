@@ -2,7 +2,6 @@
 //! samples. `written` has these under the names of XCDR1 and of XCDR2.
 #![tactic(auto)]
 
-mod codes;
 mod encoding;
 mod ends;
 mod forms;
@@ -10,7 +9,6 @@ mod params;
 mod samples;
 pub mod written;
 
-pub use codes::{header_of, is_must, length_code};
 pub use encoding::encode_value;
 pub use forms::{is_bare, is_short, most_of};
 pub use params::marked;

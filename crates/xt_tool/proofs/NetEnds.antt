@@ -25,10 +25,10 @@ use Rattle.tool_nets.specs.Opened.{AllowedOf, IsFrontCause}
 use Rattle.tool_nets.specs.clients.Lines.{fetch_output, push_output}
 use Rattle.tool_nets.specs.clients.Clients.{FetchAllows, PushAllows, objects_in}
 use Rattle.tool_nets.specs.serving.Serving.{ServeAllows}
-use Rattle.xt_tool.specs.declared.status.Status.{Status}
-use Rattle.xt_tool.specs.declared.status.Status.TheVariants as statuses
+use Rattle.tool_runs.specs.declared.output.status.Status.{Status}
+use Rattle.tool_runs.specs.declared.output.status.Status.TheVariants as statuses
 use Rattle.xt_tool.specs.Nets.{Allowed, WritesIn}
-use Rattle.xt_tool.specs.Statuses.{status_of}
+use Rattle.tool_runs.specs.output.Statuses.{status_of}
 use Rattle.xt_tool.proofs.Tops as tops
 
 -- ---- what was written

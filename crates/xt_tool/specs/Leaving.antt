@@ -5,8 +5,8 @@ use Rattle.xt_io.specs.Bundles.{Bundle, bundle}
 use Rattle.tool_runs.specs.Leaving.{Leaves, LeavesBody, LeavesNothing}
 use Rattle.tool_words.specs.Words.{Command, compile, judge, read, write, convert, show, wrap, instances, keep, replay, make, compare}
 use Rattle.tool_commands.specs.Commands.{read_lines, convert_records, write_records, instances_lines, record_records, replay_lines}
-use Rattle.xt_tool.specs.declared.status.Status.{Status}
-use Rattle.xt_tool.specs.declared.status.Status.TheVariants.{Done, No, Words, Bundle as Broken, ReadFault, WriteFault, OutOfMemory, Types, NoName, NetFault, Json, Fetch, Limit}
+use Rattle.tool_runs.specs.declared.output.status.Status.{Status}
+use Rattle.tool_runs.specs.declared.output.status.Status.TheVariants.{Done, No, Words, Bundle as Broken, ReadFault, WriteFault, OutOfMemory, Types, NoName, NetFault, Json, Fetch, Limit}
 
 -- Of a command with a body that its front's records refuse, at a name or a verdict, what is left begins with the payload of the body's first record. One
 -- without a body was answered, also with a refusal, once all was read.

@@ -11,8 +11,8 @@ use Rattle.tool_nets.specs.Nets.{Net}
 use Rattle.tool_nets.specs.Opened.{Behind}
 use Rattle.tool_nets.specs.clients.Clients.{FetchAllows, PushAllows, objects_in}
 use Rattle.tool_nets.specs.serving.Serving.{ServeAllows}
-use Rattle.xt_tool.specs.declared.status.Status.{Status}
-use Rattle.xt_tool.specs.declared.status.Status.TheVariants.{Done, No, Words, Bundle, ReadFault, WriteFault, OutOfMemory, Types, NoName, NetFault, Json, Fetch, Limit}
+use Rattle.tool_runs.specs.declared.output.status.Status.{Status}
+use Rattle.tool_runs.specs.declared.output.status.Status.TheVariants.{Done, No, Words, Bundle, ReadFault, WriteFault, OutOfMemory, Types, NoName, NetFault, Json, Fetch, Limit}
 use Rattle.xt_tool.specs.Output.{TakesInput, unread_output}
 use Rattle.xt_tool.specs.Statuses.{Writes}
 

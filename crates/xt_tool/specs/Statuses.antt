@@ -2,32 +2,15 @@
 use Rattle.std.specs.Prelude.{◌≡◌, ℕ, ◌⊎◌, List, [], Option, IfSome, IsErrOf, Result, codes}
 use Rattle.std.specs.Io.KnownBytes.{Appends}
 use Rattle.xt_io.specs.Outside.{AppendsPrefix, Rose}
-use Rattle.tool_runs.specs.declared.output.ending.Cause.{Cause}
-use Rattle.tool_runs.specs.declared.output.ending.Cause.TheVariants as causes
 use Rattle.tool_runs.specs.declared.output.ending.Ending.{Ending}
-use Rattle.tool_runs.specs.declared.output.ending.Ending.TheVariants as endings
 use Rattle.tool_runs.specs.declared.output.halt.Halt.{Halt}
 use Rattle.tool_runs.specs.declared.output.halt.Halt.TheVariants as halts
+use Rattle.tool_runs.specs.declared.output.status.Status.{Status}
+use Rattle.tool_runs.specs.declared.output.status.Status.TheVariants.{Done, No, Words, Bundle, ReadFault, WriteFault, OutOfMemory, Types, NoName, NetFault, Json, Fetch, Limit}
 use Rattle.tool_runs.specs.output.Outputs.{Output, last_piece, text_of}
 use Rattle.tool_runs.specs.output.Runs.{CutPieces, Ends, WrotePieces}
+use Rattle.tool_runs.specs.output.Statuses.{status_of}
 use Rattle.xt_tool.specs.Output.{output_of, style_of}
-use Rattle.xt_tool.specs.declared.status.Status.{Status}
-use Rattle.xt_tool.specs.declared.status.Status.TheVariants.{Done, No, Words, Bundle, ReadFault, WriteFault, OutOfMemory, Types, NoName, NetFault, Json, Fetch, Limit}
-
-abbrev pub status_of_cause : Cause → Status
-status_of_cause causes.No = No
-status_of_cause causes.Words = Words
-status_of_cause causes.Bundle = Bundle
-status_of_cause causes.Types = Types
-status_of_cause causes.NoName = NoName
-status_of_cause causes.NetFault = NetFault
-status_of_cause causes.Json = Json
-status_of_cause causes.Fetch = Fetch
-status_of_cause causes.Limit = Limit
-
-abbrev pub status_of : Ending → Status
-status_of endings.Done = Done
-status_of (endings.Refused cause) = status_of_cause cause
 
 -- The status of what asks nothing over a net, of which none fails: want of memory would be told in its place.
 abbrev pub without_net : Status → Status

@@ -11,9 +11,9 @@ ghost use Rattle.xt_tool.specs.Output.{TakesInput, style_asked, unread_output};
 ghost use Rattle.xt_tool.specs.Statuses.{AnswersAlone, WritesUnread};
 
 use crate::run::run;
-use crate::status::{Status, status_of, without_net};
+use crate::status::without_net;
 use std::alloc::Global;
-use tool_runs::output::{Halt, Style};
+use tool_runs::output::{Halt, Status, Style, status_of};
 use tool_words::{Command, command_of};
 use xt_io::{Sink, Source, write_whole};
 use xt_lists::Word;

@@ -9,5 +9,5 @@ mod status;
 mod top;
 
 pub use laws::{headline, refused};
-pub use status::Status;
+pub use tool_runs::output::Status;
 pub use top::xt;

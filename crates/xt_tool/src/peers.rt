@@ -9,12 +9,11 @@ ghost use Rattle.xt_tool.specs.Nets as spec;
 ghost use Rattle.xt_tool.specs.Nets.{Allowed, AnswersOverNet, LeavesBundle, ReadsBundle};
 
 use crate::answering::read_fault;
-use crate::status::{Status, status_of};
 use std::alloc::Global;
 use std::thread::Threads;
 use tool_nets::clients::{fetch_from, mirror_to};
 use tool_nets::serving::serve_at;
-use tool_runs::output::{Ending, Halt, Style};
+use tool_runs::output::{Ending, Halt, Status, Style, status_of};
 use tool_words::NetCommand;
 use xt_io::{Net, Sink, Source, write_whole};
 

@@ -8,7 +8,7 @@ use Rattle.tool_types.specs.declared.declaring.Declared.{Declared as Record}
 use Rattle.tool_types.specs.Declaring.{declared_view}
 use Rattle.tool_verdicts.specs.Versions.{findings, telling, versions}
 use Rattle.tool_commands.specs.Comparing.{remaining}
-use Rattle.tool_commands.specs.declared.comparing.Progress.{Progress}
+use Rattle.tool_verdicts.specs.declared.versions.progress.Progress.{Progress}
 use Rattle.tool_commands.proofs.OfListing.Listed.{good_record, next_record}
 use Rattle.tool_commands.proofs.Told.{back_record}
 use Rattle.tool_commands.proofs.comparing.compare_all.Goals as goal

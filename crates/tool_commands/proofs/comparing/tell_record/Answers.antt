@@ -1,4 +1,5 @@
-use Rattle.std.proofs.Common.{◌≡◌, ◌+◌, Bool, List, ◌∷◌, Some, None, Err, ap, ◌∙◌, sym, subst}
+use Rattle.std.proofs.Common.{◌≡◌, ◌+◌, Bool, List, ◌∷◌, Some, None, Err, ap, ap₂, ◌∙◌, sym, subst}
+use Rattle.std.specs.declared.option.Option.{Option}
 use Rattle.type_trees.specs.declared.types.Named.{Named}
 use Rattle.idl_types.specs.State.{declared}
 use Rattle.tool_runs.specs.declared.output.ending.Style.TheVariants.{Lines}
@@ -8,9 +9,13 @@ use Rattle.tool_types.specs.Declaring.{declared_view}
 use Rattle.tool_types.specs.Types.{types}
 use Rattle.tool_verdicts.specs.Versions.{versions}
 use Rattle.tool_commands.specs.Comparing.{behind_last, remaining, remaining_on}
-use Rattle.tool_commands.specs.declared.comparing.Progress.{Progress}
+use Rattle.tool_verdicts.specs.declared.versions.progress.Progress.{Progress}
+use Rattle.tool_verdicts.specs.declared.versions.comparing.Version.{Version}
 use Rattle.tool_commands.proofs.Told.{hands_on, record_told}
 use Rattle.tool_commands.proofs.comparing.tell_record.Goals as goal
+
+abbrev progress : Option Version → Bool → Progress
+progress older broke = record { older = older; broke = broke }
 
 pub returns-in_ok-broke-in-Types-clause-steps : goal.returns-in_ok-broke-in-Types-clause-steps
 returns-in_ok-broke-in-Types-clause-steps g c rest =
@@ -20,7 +25,11 @@ returns-in_ok-broke-in-Types-clause-steps g c rest =
     let ts = declared c.as_slice.result.now in
     let is : declared_view c.args.declared.now ≡ types ts = ap declared_view c.in-Types.is ∙ ap (λ (l : List Named). types (declared l)) (sym c.as_slice.ensures) in
     let now : Progress = record { older = Some (record { number = k; types = c.as_slice.result; ids = c.as_slice-in-Types.result }); broke = c.in_ok-broke-in-Types.broke } in
-    subst (λ (o : Output). Leads (Some o) (Some (remaining q r now (k + 1) rest)) (g.K.Sink.taken c.args.sink.now) (g.K.Sink.taken c.tell_version.new.sink)) (sym (record_told q r c.args.progress k (declared_view c.args.declared.now) ts rest is)) (c.in_ok-broke-in-Types.ensures.steps (behind_last q r (Some (record { number = k; types = ts })) (versions (k + 1) rest)))
+    let same : c.followed.result ≡ now = ap₂ progress c.followed.ensures.older c.followed.ensures.broke in
+    let old = g.K.Sink.taken c.args.sink.now in
+    let new = g.K.Sink.taken c.tell_version.new.sink in
+    let lead = subst (λ (o : Output). Leads (Some o) (Some (remaining q r now (k + 1) rest)) old new) (sym (record_told q r c.args.progress k (declared_view c.args.declared.now) ts rest is)) (c.in_ok-broke-in-Types.ensures.steps (behind_last q r (Some (record { number = k; types = ts })) (versions (k + 1) rest))) in
+    subst (λ (p : Progress). Leads (Some (remaining q r c.args.progress k (declared_view c.args.declared.now ∷ rest))) (Some (remaining q r p (k + 1) rest)) old new) (sym same) lead
 
 pub returns-in_err-broke-in-Types-clause-steps : goal.returns-in_err-broke-in-Types-clause-steps
 returns-in_err-broke-in-Types-clause-steps g c rest =
