@@ -1,3 +1,4 @@
+pub mod Mapped
 pub mod OfKept
 pub mod OfLengths
 pub mod OfOctets

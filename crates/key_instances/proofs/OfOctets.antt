@@ -7,6 +7,8 @@ pub mod Stays
 pub mod Tops
 -- what is written
 pub mod Chained
+pub mod PackedSlots
 pub mod Whole
+pub mod Unpacked
 -- hashes
 pub mod Padded

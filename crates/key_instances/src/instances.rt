@@ -1,8 +1,7 @@
 ghost use Rattle.std.specs.Prelude.{◌≡◌, ◌≤◌, ◌<◌, [], ◌∷◌, ◌++◌, length, map, false, Some, IfSome, IfOk, IfErr, OnOk, OnErr, IsErrOf, IsTrue};
-ghost use Rattle.type_trees.specs.View.{val};
 ghost use Rattle.key_instances.specs.kept.Kept as spec;
 ghost use Rattle.key_instances.specs.kept.Kept.{has_key};
-ghost use Rattle.key_instances.specs.Caches.{instances, shown, key_of, count_of, value_of, again_at, AreWithin};
+ghost use Rattle.key_instances.specs.Caches.{key_of, count_of, value_of, again_at, AreWithin};
 ghost use Rattle.key_instances.specs.Held.{held};
 
 use crate::entry::Entry;
@@ -14,28 +13,27 @@ use xt_lists::{OutOfMemory, Text};
 
 /// The last values of each key, in the order in which the keys came first. A look-up goes by the key's hash.
 #[derive(Drop)]
-pub struct Instances {
+pub struct LastValues<T> {
     alloc: Global,
-    entries: IndexMap<Text, Entry>,
+    entries: IndexMap<Text, Entry<T>>,
     depth: u32,
     most: u32,
 }
 
-impl Model for Instances {
+impl<T> Model for LastValues<T> {
     ghost use Rattle.std.specs.Prelude.{map};
-    ghost use Rattle.std.specs.Coded.{codes};
-    ghost use Rattle.type_trees.specs.contracts.values.Value as value;
     ghost use Rattle.key_instances.specs.Held.{held};
-    ghost use Rattle.key_instances.specs.Caches.{Cache, IsCache};
+    ghost use Rattle.key_instances.specs.Caches.{CacheOf, IsCache};
 
-    ghost Value = { Cache };
-
-    ghost coded = { Prim.hlevel (codes, value.the_row.coded) };
+    ghost Value = { CacheOf T };
 
     ghost view = { λ c. record { depth = c.depth; most = c.most; entries = map held c.entries.entries } };
 
     ghost invariant = { λ c. IsCache (record { depth = c.depth; most = c.most; entries = map held c.entries.entries }) };
 }
+
+/// The last values of each key, as trees.
+pub type Instances = LastValues<Value>;
 
 /// Why a value was not put.
 #[derive(Debug, Clone, Copy, PartialEq, Eq)]
@@ -45,15 +43,15 @@ pub enum PutFault {
     OutOfMemory,
 }
 
-impl Instances {
-    /// No instances. Of each key the last `depth` values are kept, and there are at most `most` keys. It takes no memory; what is put later
+impl<T: Drop> LastValues<T> {
+    /// No keys. Of each key the last `depth` values are kept, and there are at most `most` keys. It takes no memory; what is put later
     /// is kept in memory of this allocator.
-    pub fn new(alloc: Global, depth: u32, most: u32) -> Result<Instances, OutOfMemory>
+    pub fn new(alloc: Global, depth: u32, most: u32) -> Result<LastValues<T>, OutOfMemory>
         requires depth { (1 ≤ depth) × (depth ≤ 1024) }
         requires most { (1 ≤ most) × (most ≤ 65536) }
         ensures { IfOk result (λ cache. cache ≡ record { depth = depth; most = most; entries = [] }) }
     {
-        Ok(Instances {
+        Ok(LastValues {
             alloc,
             entries: IndexMap::new(alloc),
             depth,
@@ -63,13 +61,13 @@ impl Instances {
 
     /// Puts a value under its key. It is `Full` exactly where the key isn't there and as many keys are as may be. A refused call changes
     /// nothing, and drops both.
-    pub fn put(&mut self, key: Text, value: Value) -> Result<(), PutFault>
-        ensures put { OnOk result (instances self.new ≡ spec.put self.old.depth (instances self.old) key (val value)) }
+    pub fn put(&mut self, key: Text, value: T) -> Result<(), PutFault>
+        ensures put { OnOk result (self.new.entries ≡ spec.put self.old.depth self.old.entries key value) }
         ensures depth { self.new.depth ≡ self.old.depth }
         ensures most { self.new.most ≡ self.old.most }
-        ensures room { OnOk result (IsTrue (spec.is_full self.old.most (instances self.old) key) → ⊥) }
-        ensures full { IsErrOf result PutFault.Full → IsTrue (spec.is_full self.old.most (instances self.old) key) }
-        ensures memory { IsErrOf result PutFault.OutOfMemory → IsTrue (spec.is_full self.old.most (instances self.old) key) → ⊥ }
+        ensures room { OnOk result (IsTrue (spec.is_full self.old.most self.old.entries key) → ⊥) }
+        ensures full { IsErrOf result PutFault.Full → IsTrue (spec.is_full self.old.most self.old.entries key) }
+        ensures memory { IsErrOf result PutFault.OutOfMemory → IsTrue (spec.is_full self.old.most self.old.entries key) → ⊥ }
         ensures unchanged { OnErr result (self.new ≡ self.old) }
     {
         match self.entries.get_index_of(&key) {
@@ -81,15 +79,15 @@ impl Instances {
 
     /// The number of keys. It takes no memory.
     pub fn len(&self) -> u32
-        ensures { result ≡ length (instances self.now) }
+        ensures { result ≡ length self.now.entries }
     {
         self.entries.len() as u32
     }
 
     /// The key at this place. It takes no memory.
     pub fn key_at(&self, i: u32) -> &Text
-        requires { i < length (instances self.now) }
-        ensures { Some result.now ≡ key_of (instances self.now) i }
+        requires { i < length self.now.entries }
+        ensures { Some result.now ≡ key_of self.now.entries i }
     {
         match self.entries.get_index(i as usize) {
             Some((key, _)) => key,
@@ -99,8 +97,8 @@ impl Instances {
 
     /// How many values are kept of the key at this place. It takes no memory.
     pub fn count_at(&self, i: u32) -> u32
-        requires { i < length (instances self.now) }
-        ensures { Some result ≡ count_of (instances self.now) i }
+        requires { i < length self.now.entries }
+        ensures { Some result ≡ count_of self.now.entries i }
     {
         match self.entries.get_index(i as usize) {
             Some((_, entry)) => entry.values.len() as u32,
@@ -109,10 +107,10 @@ impl Instances {
     }
 
     /// The value at place j of those of the key at place i; the oldest is at 0. It takes no memory.
-    pub fn value_at(&self, i: u32, j: u32) -> &Value
-        requires i { i < length (instances self.now) }
-        requires j { IfSome (count_of (instances self.now) i) (λ n. j < n) }
-        ensures { Some (val result.now) ≡ value_of (instances self.now) i j }
+    pub fn value_at(&self, i: u32, j: u32) -> &T
+        requires i { i < length self.now.entries }
+        requires j { IfSome (count_of self.now.entries i) (λ n. j < n) }
+        ensures { Some result.now ≡ value_of self.now.entries i j }
     {
         match self.entries.get_index(i as usize) {
             Some((_, entry)) => &entry.values[j as usize],
@@ -122,16 +120,16 @@ impl Instances {
 }
 
 /// One more value of the key at this place.
-fn put_again(
-    entries: &mut IndexMap<Text, Entry>,
+fn put_again<T: Drop>(
+    entries: &mut IndexMap<Text, Entry<T>>,
     at: usize,
     depth: u32,
-    value: Value,
+    value: T,
 ) -> Result<(), PutFault>
     requires at { at < length entries.old.entries }
     requires some { 1 ≤ depth }
     requires few { AreWithin depth (map held entries.old.entries) }
-    ensures ok { OnOk result (map shown (map held entries.new.entries) ≡ again_at depth (map shown (map held entries.old.entries)) at (val value)) }
+    ensures ok { OnOk result (map held entries.new.entries ≡ again_at depth (map held entries.old.entries) at value) }
     ensures few { AreWithin depth (map held entries.new.entries) }
     ensures count { length entries.new.entries ≡ length entries.old.entries }
     ensures err { OnErr result (map held entries.new.entries ≡ map held entries.old.entries) }
@@ -145,13 +143,13 @@ fn put_again(
 }
 
 /// The first value of a key that isn't there.
-fn put_first(
+fn put_first<T: Drop>(
     alloc: Global,
-    entries: &mut IndexMap<Text, Entry>,
+    entries: &mut IndexMap<Text, Entry<T>>,
     key: Text,
-    value: Value,
+    value: T,
 ) -> Result<(), PutFault>
-    requires { has_key key (map shown (map held entries.old.entries)) ≡ false }
+    requires { has_key key (map held entries.old.entries) ≡ false }
     ensures ok { OnOk result (map held entries.new.entries ≡ map held entries.old.entries ++ (key, value ∷ []) ∷ []) }
     ensures err { OnErr result (map held entries.new.entries ≡ map held entries.old.entries) }
     ensures fault { IfErr result (λ fault. fault ≡ PutFault.OutOfMemory) }

@@ -8,8 +8,8 @@ pub mod kept;
 pub mod octets;
 
 pub use crate::octets::{
-    hash_of, key_hash, key_octets, key_octets_tell, others_have_long_keys, short_key,
-    short_keys_fit,
+    hash_of, key_hash, key_octets, key_octets_tell, others_have_long_keys, packed_key_octets,
+    short_key, short_keys_fit,
 };
-pub use instances::{Instances, PutFault};
+pub use instances::{Instances, LastValues, PutFault};
 pub use projection_laws::keys_cross;

@@ -4,8 +4,7 @@ use Rattle.std.proofs.lemmas.Bool.{cases_Bool, and_from, or_parts, both_ways}
 use Rattle.std.specs.Cmp.Lexicographic.{same_text}
 use Rattle.std.specs.Str.{bytes_eq}
 use Rattle.std.proofs.lemmas.Cmp.{nat_list_eq_equiv}
-use Rattle.xt_shapes.specs.Vals.{Val}
-use Rattle.key_instances.specs.kept.Kept.{Puts, is_among, keys_of, values_of}
+use Rattle.key_instances.specs.kept.Kept.{PutsOf, is_among, keys_of, values_of}
 
 pub same_bytes : (xs ys : List ℕ) → bytes_eq xs ys ≡ true → xs ≡ ys
 same_bytes xs ys e = same_text xs ys (sym e)
@@ -22,7 +21,7 @@ apart [] = true
 apart (k ∷ ks) = not (is_among k ks) && apart ks
 
 -- keys that were there before are not taken again
-pub not_again : (before : List (List ℕ)) (ps : Puts) (key : List ℕ) → is_among key before ≡ true → is_among key (keys_of before ps) ≡ false
+pub not_again : {V : Type 0} (before : List (List ℕ)) (ps : PutsOf V) (key : List ℕ) → is_among key before ≡ true → is_among key (keys_of before ps) ≡ false
 not_again before [] key e = refl
 not_again before (p ∷ ps) key e = elim (cases_Bool (is_among p.0 before)) [
   | inl y ↦ ap (λ (c : Bool). is_among key (if c then keys_of before ps else p.0 ∷ keys_of (p.0 ∷ before) ps)) y ∙ not_again before ps key e
@@ -41,7 +40,7 @@ not_again before (p ∷ ps) key e = elim (cases_Bool (is_among p.0 before)) [
       | inr m ↦ m
     ]
 
-pub keys_apart : (before : List (List ℕ)) (ps : Puts) → apart (keys_of before ps) ≡ true
+pub keys_apart : {V : Type 0} (before : List (List ℕ)) (ps : PutsOf V) → apart (keys_of before ps) ≡ true
 keys_apart before [] = refl
 keys_apart before (p ∷ ps) = elim (cases_Bool (is_among p.0 before)) [
   | inl y ↦ ap (λ (c : Bool). apart (if c then keys_of before ps else p.0 ∷ keys_of (p.0 ∷ before) ps)) y ∙ keys_apart before ps
@@ -55,7 +54,7 @@ abbrev with_key : List (List ℕ) → List ℕ → List (List ℕ) → List (Lis
 with_key before key ks = if is_among key before || is_among key ks then ks else ks ++ key ∷ []
 
 -- one key more
-pub keys_more : (before : List (List ℕ)) (ps : Puts) (key : List ℕ) (v : Val)
+pub keys_more : {V : Type 0} (before : List (List ℕ)) (ps : PutsOf V) (key : List ℕ) (v : V)
     → keys_of before (ps ++ (key, v) ∷ []) ≡ (if is_among key before || is_among key (keys_of before ps) then keys_of before ps else keys_of before ps ++ key ∷ [])
 keys_more before [] key v = elim (cases_Bool (is_among key before)) [
   | inl y ↦ ap (λ (c : Bool). if c then [] else key ∷ []) y ∙ sym (ap (λ (c : Bool). if c || false then [] else key ∷ []) y)
@@ -78,7 +77,7 @@ keys_more before (p ∷ ps) key v = elim (cases_Bool (is_among p.0 before)) [
     turned false false false ks = refl
 
 -- one value more
-pub values_more : (ps : Puts) (key other : List ℕ) (v : Val) → values_of other (ps ++ (key, v) ∷ []) ≡ values_of other ps ++ (if bytes_eq key other then v ∷ [] else [])
+pub values_more : {V : Type 0} (ps : PutsOf V) (key other : List ℕ) (v : V) → values_of other (ps ++ (key, v) ∷ []) ≡ values_of other ps ++ (if bytes_eq key other then v ∷ [] else [])
 values_more [] key other v = refl
 values_more (p ∷ ps) key other v = by (bytes_eq p.0 other) (values_more ps key other v)
   where
@@ -88,7 +87,7 @@ values_more (p ∷ ps) key other v = by (bytes_eq p.0 other) (values_more ps key
     by false e = e
 
 -- a key that never came has no values
-pub none_of : (before : List (List ℕ)) (ps : Puts) (key : List ℕ) → is_among key before ≡ false → is_among key (keys_of before ps) ≡ false → values_of key ps ≡ []
+pub none_of : {V : Type 0} (before : List (List ℕ)) (ps : PutsOf V) (key : List ℕ) → is_among key before ≡ false → is_among key (keys_of before ps) ≡ false → values_of key ps ≡ []
 none_of before [] key b e = refl
 none_of before (p ∷ ps) key b e = elim (cases_Bool (is_among p.0 before)) [
   | inl y ↦ ap (λ (c : Bool). if c then p.1 ∷ values_of key ps else values_of key ps) (differs p.0 y)

@@ -3,18 +3,17 @@ use Rattle.std.proofs.Common.{◌≡◌, refl, sym, ap, ◌∙◌, ℕ, ◌≤�
 use Rattle.std.proofs.lemmas.Bool.{cases_Bool, and_parts, or_parts, not-true, both_ways}
 use Rattle.std.proofs.lemmas.List.{map-append}
 use Rattle.std.specs.Str.{bytes_eq}
-use Rattle.xt_shapes.specs.Vals.{Val}
-use Rattle.key_instances.specs.kept.Kept.{Puts, Instances, last, is_among, keys_of, values_of, kept, put, all_put}
+use Rattle.key_instances.specs.kept.Kept.{PutsOf, InstancesOf, last, is_among, keys_of, values_of, kept, put, all_put}
 use Rattle.key_instances.specs.kept.Laws.{KeepsLast}
 use Rattle.key_instances.proofs.OfKept.Keys.{same_bytes, own_bytes, turned_bytes, apart, keys_apart, keys_more, values_more, none_of}
 use Rattle.key_instances.proofs.OfKept.Lasts.{last_more, last_one}
 
-module _ (n : ℕ) (ps : Puts) (key : List ℕ) (v : Val) where
+module _ {V : Type 0} (n : ℕ) (ps : PutsOf V) (key : List ℕ) (v : V) where
   -- what is kept of a key before and after a put
-  abbrev before : List ℕ → List ℕ × List Val
+  abbrev before : List ℕ → List ℕ × List V
   before k = (k, last n (values_of k ps))
 
-  abbrev after : List ℕ → List ℕ × List Val
+  abbrev after : List ℕ → List ℕ × List V
   after k = (k, last n (values_of k (ps ++ (key, v) ∷ [])))
 
   other_stays : (k : List ℕ) → bytes_eq key k ≡ false → before k ≡ after k
@@ -31,7 +30,7 @@ module _ (n : ℕ) (ps : Puts) (key : List ℕ) (v : Val) where
   all_stay [] e = refl
   all_stay (k ∷ ks) e =
       let parts = or_parts (bytes_eq k key) (is_among key ks) e in
-      ap₂ (λ (e : List ℕ × List Val) (es : Instances). e ∷ es) (other_stays k (turned k parts.0)) (all_stay ks parts.1)
+      ap₂ (λ (e : List ℕ × List V) (es : InstancesOf V). e ∷ es) (other_stays k (turned k parts.0)) (all_stay ks parts.1)
 
   put_last : (ks : List (List ℕ)) → is_among key ks ≡ false → put n (map before ks) key v ≡ map before ks ++ (key, v ∷ []) ∷ []
   put_last [] e = refl
@@ -48,10 +47,10 @@ module _ (n : ℕ) (ps : Puts) (key : List ℕ) (v : Val) where
             let rest = all_stay ks (ap (λ (o : List ℕ). is_among o ks) (sym same) ∙ not-true (is_among k ks) ds.0) in
             let own : last n (last n (values_of k ps) ++ v ∷ []) ≡ last n (values_of k (ps ++ (key, v) ∷ [])) =
             ap (λ (o : List ℕ). last n (last n (values_of o ps) ++ v ∷ [])) same ∙ last_more n (values_of key ps) v ∙ ap (last n) (sym own_values) ∙ ap (λ (o : List ℕ). last n (values_of o (ps ++ (key, v) ∷ []))) (sym same) in
-            ap (λ (c : Bool). if c then (k, last n (last n (values_of k ps) ++ v ∷ [])) ∷ map before ks else before k ∷ put n (map before ks) key v) y ∙ ap₂ (λ (vs : List Val) (es : Instances). (k, vs) ∷ es) own rest)
+            ap (λ (c : Bool). if c then (k, last n (last n (values_of k ps) ++ v ∷ [])) ∷ map before ks else before k ∷ put n (map before ks) key v) y ∙ ap₂ (λ (vs : List V) (es : InstancesOf V). (k, vs) ∷ es) own rest)
         | inr m ↦ (let one = other_stays k (turned k m) in
             let more = put_again ks ds.1 (sym (ap (λ (c : Bool). c || is_among key ks) m) ∙ e) in
-            ap (λ (c : Bool). if c then (k, last n (last n (values_of k ps) ++ v ∷ [])) ∷ map before ks else before k ∷ put n (map before ks) key v) m ∙ ap₂ (λ (e : List ℕ × List Val) (es : Instances). e ∷ es) one more)
+            ap (λ (c : Bool). if c then (k, last n (last n (values_of k ps) ++ v ∷ [])) ∷ map before ks else before k ∷ put n (map before ks) key v) m ∙ ap₂ (λ (e : List ℕ × List V) (es : InstancesOf V). e ∷ es) one more)
       ]
 
   -- one put more
@@ -61,13 +60,17 @@ module _ (n : ℕ) (ps : Puts) (key : List ℕ) (v : Val) where
       elim (cases_Bool (is_among key ks)) [
         | inl y ↦ put_again ks (keys_apart [] ps) y ∙ ap (map after) (sym (keys_more [] ps key v ∙ ap (λ (c : Bool). if c then ks else ks ++ key ∷ []) y))
         | inr m ↦ (let new : (key, v ∷ []) ≡ after key = ap (λ vs. (key, vs)) (sym (last_one n v one) ∙ ap (λ vs. last n (vs ++ v ∷ [])) (sym (none_of [] ps key refl m)) ∙ ap (last n) (sym own_values)) in
-            put_last ks m ∙ ap₂ (λ (es : Instances) (e : List ℕ × List Val). es ++ e ∷ []) (all_stay ks m) new ∙ sym (map-append after ks (key ∷ []))
+            put_last ks m ∙ ap₂ (λ (es : InstancesOf V) (e : List ℕ × List V). es ++ e ∷ []) (all_stay ks m) new ∙ sym (map-append after ks (key ∷ []))
             ∙ ap (map after) (sym (keys_more [] ps key v ∙ ap (λ (c : Bool). if c then ks else ks ++ key ∷ []) m)))
       ]
 
-all_from : (n : ℕ) (ps qs : Puts) → 1 ≤ n → all_put n (kept n ps) qs ≡ kept n (ps ++ qs)
+all_from : {V : Type 0} (n : ℕ) (ps qs : PutsOf V) → 1 ≤ n → all_put n (kept n ps) qs ≡ kept n (ps ++ qs)
 all_from n ps [] one = ap (kept n) (sym (append-nil ps))
 all_from n ps (q ∷ qs) one = ap (λ es. all_put n es qs) (put_step n ps q.0 q.1 one) ∙ all_from n (ps ++ (q.0, q.1) ∷ []) qs one ∙ ap (kept n) (append_assoc ps (q ∷ []) qs)
 
+-- this holds of any kind of values
+pub all_kept : {V : Type 0} (n : ℕ) (puts : PutsOf V) → 1 ≤ n → all_put n [] puts ≡ kept n puts
+all_kept n puts one = all_from n [] puts one
+
 pub keeps_last : KeepsLast
-keeps_last n puts one = all_from n [] puts one
+keeps_last n puts one = all_kept n puts one

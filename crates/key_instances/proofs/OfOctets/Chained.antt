@@ -115,7 +115,7 @@ pub record Turn (keyed : Bool) (ms : Members) (ss : Slots) (n : ℕ) (c : Counte
   pub left : (o : Order) → chained o (from n (key_types keyed ms)) (from n (key_parts keyed ms ss))
       ≡ then_fixed (if_present_fixed s (λ w. part_fixed o t w)) (chained o (from (suc c.id) (key_types keyed ms)) (from (suc c.id) (key_parts keyed ms ss)))
 
-turned : (keyed : Bool) (ms : Members) (ss : Slots) (n : ℕ) (c : Counted) (h : Head) (t : Shape) (s : Slot) → IsLeast keyed ms n c → member_in ms c.at ≡ Some (h, t) → s ≡ slot_in ss c.at → distinct_members ms ≡ true → counted_keyable keyed ms ≡ true → have_types ms ss ≡ true
+pub turned : (keyed : Bool) (ms : Members) (ss : Slots) (n : ℕ) (c : Counted) (h : Head) (t : Shape) (s : Slot) → IsLeast keyed ms n c → member_in ms c.at ≡ Some (h, t) → s ≡ slot_in ss c.at → distinct_members ms ≡ true → counted_keyable keyed ms ≡ true → have_types ms ss ≡ true
     → Turn keyed ms ss n c t s
 turned keyed ms ss n c h t s l e same d k y =
     let (w, there, typed) = present_there keyed ms ss n c h t l e k y in

@@ -71,7 +71,7 @@ slot_in ss zero = first ss
 slot_in ss (suc i) = slot_in (others ss) i
 
 -- a slot by its place in the program's list
-none_in : (i : ℕ) → slot_in no_slots i ≡ absent
+pub none_in : (i : ℕ) → slot_in no_slots i ≡ absent
 none_in zero = refl
 none_in (suc i) = none_in i
 

@@ -50,7 +50,7 @@ fn put_counted<K: Sink>(
 
 /// A counted member that is present, as all of them are.
 #[cycle(parts)]
-fn put_slot<K: Sink>(
+pub(crate) fn put_slot<K: Sink>(
     member: &Member,
     slot: Option<&Value>,
     out: &mut Writer<K>,
