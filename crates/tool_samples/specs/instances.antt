@@ -1,3 +1,4 @@
 pub mod Instancing
 pub mod Keeping
+pub mod Holding
 pub mod Laws

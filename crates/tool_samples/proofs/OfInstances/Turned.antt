@@ -36,6 +36,7 @@ use Rattle.tool_runs.specs.declared.output.stop.Stop.TheVariants as stops
 use Rattle.tool_runs.specs.output.Outputs.{Output, Refusal, Turn, goes_on, over, after_pieces, after_turn, refused}
 use Rattle.tool_runs.specs.output.Runs.{Leads, Refuses, Steps}
 use Rattle.tool_runs.proofs.OfOutput.Written.{stops_here}
+use Rattle.tool_samples.specs.instances.Holding.{HasKeyRead, value_read}
 use Rattle.tool_samples.specs.instances.Instancing.{most_keys, full, put_turn, outcome_turn, payload_turn}
 use Rattle.tool_samples.specs.instances.Keeping.{HasKey, Keeps}
 
@@ -71,7 +72,7 @@ passed_over {T} view depth rep t cache payload {a} {b} at why start d =
 
 -- ---- its key
 
-key_of : (rep : Rep) (t : Shape) (payload : List ℕ) (x : Outcome) → SampleTyped → KeyOctetsBound → IsTrue (rules_hold t) → weight t ≤ 65536 → IsTrue (all (λ c. nat_lt c 256) payload) → length payload ≤ 1048576 → read_sample rep t payload ≡ Ok x → HasKey t x
+pub key_of : (rep : Rep) (t : Shape) (payload : List ℕ) (x : Outcome) → SampleTyped → KeyOctetsBound → IsTrue (rules_hold t) → weight t ≤ 65536 → IsTrue (all (λ c. nat_lt c 256) payload) → length payload ≤ 1048576 → read_sample rep t payload ≡ Ok x → HasKey t x
 key_of rep t payload (sample v) typed bound rules light octets few read =
     let most = bound rep t payload v rules octets read in
     (typed rep t payload v rules octets read, omega (arith, most, light, few))
@@ -102,6 +103,14 @@ put_refused depth es now key v stop many said = by (is_full most_keys es key) ma
     by : (b : Bool) → b ≡ true → Keeps (if b then over full else goes_on [] (put depth es key v)) now (Err stop)
     by true e = refused_so full now stop said
     by false e = absurd cc
+
+-- the octets of a sample that has a value, under the value's key
+pub octets_kept : (depth : ℕ) (rep : Rep) (t : Tree) (es now : Instances) (payload key : List ℕ) (result : Result (Unit {0}) Stop) → HasKeyRead rep (shape t) payload key → Keeps (put_turn depth es key (value_read (read_sample rep (shape t) payload))) now result
+    → Keeps (payload_turn depth rep t es payload) now result
+octets_kept depth rep t es now payload key result (v, read, is) p =
+    let by_value = subst (λ (q : Result Outcome Fault). Keeps (put_turn depth es key (value_read q)) now result) read p in
+    let by_key = subst (λ (k : List ℕ). Keeps (put_turn depth es k v) now result) is by_value in
+    subst (λ (q : Result Outcome Fault). Keeps (outcome_turn depth t es q) now result) (sym read) by_key
 
 -- memory was wanting
 pub none_kept : (turn : Turn Instances) (now : Instances) → Keeps turn now (Err (stops.Halted halts.OutOfMemory))

@@ -5,14 +5,21 @@ ghost use Rattle.type_rules.specs.Valid.{type_fault};
 ghost use Rattle.type_trees.specs.View.{tree, val};
 ghost use Rattle.projection_laws.specs.Premises.{IsValid};
 ghost use Rattle.xcdr_model.specs.KeyOctets as keys;
-ghost use Rattle.key_instances.specs.Caches.{instances};
 ghost use Rattle.tool_runs.specs.output.Outputs.{Output, after_pieces, finished};
 ghost use Rattle.tool_runs.specs.output.Runs.{Steps, StopsWriting};
+ghost use Rattle.tool_samples.specs.instances.Holding.{held_val, kept_in, value_read};
 ghost use Rattle.tool_samples.specs.instances.Instancing as spec;
+ghost use Rattle.type_trees.specs.Bridge.{type_shape};
+ghost use Rattle.xcdr_model.specs.Samples.{read_sample};
+ghost use Rattle.std.specs.Prelude.{IfSome};
 
+use crate::forms::{Lines, Shows};
+use crate::instances::held::{Held, LastSamples};
 use crate::lines::value_text;
-use key_instances::Instances;
+use crate::payloads::taken;
 use key_instances::octets::{hash_of, short_key};
+use packed_reader::read_plain;
+use settled_parts::Outcome;
 use std::alloc::Global;
 use tool_runs::output::{Halt, Stop, Style, line};
 use tool_runs::say_pieces;
@@ -40,97 +47,107 @@ fn value_line(alloc: Global, ty: &XType, value: &Value) -> Result<Text, OutOfMem
     line(value_text(alloc, ty, value)?)
 }
 
-fn say_value<K: Sink>(alloc: Global, ty: &XType, value: &Value, sink: &mut K) -> Result<(), Stop>
-    requires { IsValid ty.now }
-    ensures steps { (rest : Output) → Steps Style.Lines (Some (after_pieces (spec.value_line (tree ty.now) (val value.now) ∷ []) rest)) (Some rest) result (K.taken sink.old) (K.taken sink.new) }
-    ensures stops { StopsWriting (K.faults sink.old) (K.faults sink.new) result }
-    ensures same { K.name sink.new ≡ K.name sink.old }
-{
-    match value_line(alloc, ty, value) {
-        Ok(piece) => say_pieces(sink, piece.octets()),
-        Err(_) => Err(Stop::Halted(Halt::OutOfMemory)),
-    }
-}
-
-// The values of the instance at a place, from the oldest on.
-fn say_values<K: Sink>(
-    alloc: Global,
-    ty: &XType,
-    cache: &Instances,
-    at: u32,
-    sink: &mut K,
-) -> Result<(), Stop>
-    requires valid { IsValid ty.now }
-    requires at { at < length (instances cache.now) }
-    ensures steps { (rest : Output) → Steps Style.Lines (Some (after_pieces (spec.values_at (tree ty.now) (slice_get (instances cache.now) at)) rest)) (Some rest) result (K.taken sink.old) (K.taken sink.new) }
-    ensures stops { StopsWriting (K.faults sink.old) (K.faults sink.new) result }
-    ensures same { K.name sink.new ≡ K.name sink.old }
-{
-    for index in 0..cache.count_at(at) {
-        match say_value(alloc, ty, cache.value_at(at, index), sink) {
-            Ok(()) => {}
-            Err(stop) => return Err(stop),
+impl LastSamples {
+    // The line of a plain sample. None says nothing.
+    fn plain_line(&self, alloc: Global, payload: &[u8]) -> Option<Text>
+        ensures { IfSome result (λ text. text ≡ spec.value_line (tree self.now.ty) (value_read (read_sample self.now.rep (type_shape self.now.ty) payload.now))) }
+    {
+        match &self.plan {
+            None => None,
+            Some(plan) => {
+                let value = read_plain(alloc, self.rep, &self.ty, payload)?;
+                Lines.plain(alloc, &self.ty, plan, &value, payload.len())
+            }
         }
     }
-    Ok(())
-}
 
-// The line of the instance at a place.
-fn say_head<K: Sink>(
-    alloc: Global,
-    ty: &XType,
-    cache: &Instances,
-    at: u32,
-    sink: &mut K,
-) -> Result<(), Stop>
-    requires valid { IsValid ty.now }
-    requires at { at < length (instances cache.now) }
-    ensures steps { (rest : Output) → Steps Style.Lines (Some (after_pieces (spec.head_at (tree ty.now) (slice_get (instances cache.now) at)) rest)) (Some rest) result (K.taken sink.old) (K.taken sink.new) }
-    ensures stops { StopsWriting (K.faults sink.old) (K.faults sink.new) result }
-    ensures same { K.name sink.new ≡ K.name sink.old }
-{
-    match instance_line(alloc, ty, cache.key_at(at).octets(), cache.count_at(at)) {
-        Ok(piece) => say_pieces(sink, piece.octets()),
-        Err(_) => Err(Stop::Halted(Halt::OutOfMemory)),
-    }
-}
-
-fn say_instance<K: Sink>(
-    alloc: Global,
-    ty: &XType,
-    cache: &Instances,
-    at: u32,
-    sink: &mut K,
-) -> Result<(), Stop>
-    requires valid { IsValid ty.now }
-    requires at { at < length (instances cache.now) }
-    ensures steps { (rest : Output) → Steps Style.Lines (Some (after_pieces (spec.lines_at (tree ty.now) (slice_get (instances cache.now) at)) rest)) (Some rest) result (K.taken sink.old) (K.taken sink.new) }
-    ensures stops { StopsWriting (K.faults sink.old) (K.faults sink.new) result }
-    ensures same { K.name sink.new ≡ K.name sink.old }
-{
-    match say_head(alloc, ty, cache, at, sink) {
-        Ok(()) => say_values(alloc, ty, cache, at, sink),
-        Err(stop) => Err(stop),
-    }
-}
-
-/// Writes the line of each instance and of each of its values, in order.
-pub fn say_instances<K: Sink>(
-    alloc: Global,
-    ty: &XType,
-    cache: &Instances,
-    sink: &mut K,
-) -> Result<(), Stop>
-    requires { IsValid ty.now }
-    ensures steps { Steps Style.Lines (Some (spec.instances_end (tree ty.now) (instances cache.now))) (Some finished) result (K.taken sink.old) (K.taken sink.new) }
-    ensures stops { StopsWriting (K.faults sink.old) (K.faults sink.new) result }
-    ensures same { K.name sink.new ≡ K.name sink.old }
-{
-    for at in 0..cache.len() {
-        match say_instance(alloc, ty, cache, at, sink) {
-            Ok(()) => {}
-            Err(stop) => return Err(stop),
+    // The line of a sample that has a value, of which the octets are kept.
+    fn octets_line(&self, alloc: Global, payload: &[u8]) -> Result<Text, OutOfMemory>
+        ensures { IfOk result (λ text. text ≡ spec.value_line (tree self.now.ty) (value_read (read_sample self.now.rep (type_shape self.now.ty) payload.now))) }
+    {
+        if let Some(text) = self.plain_line(alloc, payload) {
+            return Ok(text);
+        }
+        match taken(alloc, self.rep, &self.ty, payload) {
+            Ok(Outcome::Sample(value)) => value_line(alloc, &self.ty, &value),
+            _ => Err(OutOfMemory),
         }
     }
-    Ok(())
+
+    fn held_line(&self, alloc: Global, held: &Held) -> Result<Text, OutOfMemory>
+        ensures { IfOk result (λ text. text ≡ spec.value_line (tree self.now.ty) (held_val self.now.rep (tree self.now.ty) held.now)) }
+    {
+        match held {
+            Held::Octets(payload) => self.octets_line(alloc, payload.octets()),
+            Held::Value(value) => value_line(alloc, &self.ty, value),
+        }
+    }
+
+    fn say_value<K: Sink>(&self, alloc: Global, held: &Held, sink: &mut K) -> Result<(), Stop>
+        ensures steps { (rest : Output) → Steps Style.Lines (Some (after_pieces (spec.value_line (tree self.now.ty) (held_val self.now.rep (tree self.now.ty) held.now) ∷ []) rest)) (Some rest) result (K.taken sink.old) (K.taken sink.new) }
+        ensures stops { StopsWriting (K.faults sink.old) (K.faults sink.new) result }
+        ensures same { K.name sink.new ≡ K.name sink.old }
+    {
+        match self.held_line(alloc, held) {
+            Ok(piece) => say_pieces(sink, piece.octets()),
+            Err(_) => Err(Stop::Halted(Halt::OutOfMemory)),
+        }
+    }
+
+    // The values of the instance at a place, from the oldest on.
+    fn say_values<K: Sink>(&self, alloc: Global, at: u32, sink: &mut K) -> Result<(), Stop>
+        requires at { at < length (kept_in self.now) }
+        ensures steps { (rest : Output) → Steps Style.Lines (Some (after_pieces (spec.values_at (tree self.now.ty) (slice_get (kept_in self.now) at)) rest)) (Some rest) result (K.taken sink.old) (K.taken sink.new) }
+        ensures stops { StopsWriting (K.faults sink.old) (K.faults sink.new) result }
+        ensures same { K.name sink.new ≡ K.name sink.old }
+    {
+        for index in 0..self.cache.count_at(at) {
+            match self.say_value(alloc, self.cache.value_at(at, index), sink) {
+                Ok(()) => {}
+                Err(stop) => return Err(stop),
+            }
+        }
+        Ok(())
+    }
+
+    // The line of the instance at a place.
+    fn say_head<K: Sink>(&self, alloc: Global, at: u32, sink: &mut K) -> Result<(), Stop>
+        requires at { at < length (kept_in self.now) }
+        ensures steps { (rest : Output) → Steps Style.Lines (Some (after_pieces (spec.head_at (tree self.now.ty) (slice_get (kept_in self.now) at)) rest)) (Some rest) result (K.taken sink.old) (K.taken sink.new) }
+        ensures stops { StopsWriting (K.faults sink.old) (K.faults sink.new) result }
+        ensures same { K.name sink.new ≡ K.name sink.old }
+    {
+        let key = self.cache.key_at(at).octets();
+        match instance_line(alloc, &self.ty, key, self.cache.count_at(at)) {
+            Ok(piece) => say_pieces(sink, piece.octets()),
+            Err(_) => Err(Stop::Halted(Halt::OutOfMemory)),
+        }
+    }
+
+    fn say_instance<K: Sink>(&self, alloc: Global, at: u32, sink: &mut K) -> Result<(), Stop>
+        requires at { at < length (kept_in self.now) }
+        ensures steps { (rest : Output) → Steps Style.Lines (Some (after_pieces (spec.lines_at (tree self.now.ty) (slice_get (kept_in self.now) at)) rest)) (Some rest) result (K.taken sink.old) (K.taken sink.new) }
+        ensures stops { StopsWriting (K.faults sink.old) (K.faults sink.new) result }
+        ensures same { K.name sink.new ≡ K.name sink.old }
+    {
+        match self.say_head(alloc, at, sink) {
+            Ok(()) => self.say_values(alloc, at, sink),
+            Err(stop) => Err(stop),
+        }
+    }
+
+    // Writes the line of each instance and of each of its values, in order.
+    pub(crate) fn say_instances<K: Sink>(&self, alloc: Global, sink: &mut K) -> Result<(), Stop>
+        ensures steps { Steps Style.Lines (Some (spec.instances_end (tree self.now.ty) (kept_in self.now))) (Some finished) result (K.taken sink.old) (K.taken sink.new) }
+        ensures stops { StopsWriting (K.faults sink.old) (K.faults sink.new) result }
+        ensures same { K.name sink.new ≡ K.name sink.old }
+    {
+        for at in 0..self.cache.len() {
+            match self.say_instance(alloc, at, sink) {
+                Ok(()) => {}
+                Err(stop) => return Err(stop),
+            }
+        }
+        Ok(())
+    }
 }

@@ -1,18 +1,23 @@
-ghost use Rattle.std.specs.Prelude.{◌≡◌, ◌≤◌, ◌<◌, ◌^◌, length, Ok, IsTrue};
+ghost use Rattle.std.specs.Prelude.{◌≡◌, ◌≤◌, ◌<◌, ◌^◌, length, Ok, IsTrue, IfSome};
+ghost use Rattle.xt_shapes.specs.declared.leaves.Rep.{Rep};
 ghost use Rattle.xt_shapes.specs.Typing.{has_type};
+ghost use Rattle.xt_shapes.specs.Vals.{Val};
 ghost use Rattle.type_trees.specs.Bridge.{type_shape};
 ghost use Rattle.type_trees.specs.View.{tree, val};
 ghost use Rattle.settled_parts.specs.Settling.{outcome_val};
 ghost use Rattle.projection_laws.specs.Premises.{IsValid};
 ghost use Rattle.xcdr_model.specs.KeyOctets as spec;
 ghost use Rattle.xcdr_model.specs.Samples.{sample};
-ghost use Rattle.key_instances.specs.Caches.{instances};
 ghost use Rattle.tool_runs.specs.output.Runs.{Refuses};
-ghost use Rattle.tool_samples.specs.instances.Instancing.{full, outcome_turn, payload_turn};
+ghost use Rattle.tool_samples.specs.declared.instances.held.Held.{Held};
+ghost use Rattle.tool_samples.specs.instances.Holding.{HasKeyRead, held_val, shown_as};
+ghost use Rattle.tool_samples.specs.instances.Instancing.{full, outcome_turn, payload_turn, put_turn};
 ghost use Rattle.tool_samples.specs.instances.Keeping.{HasKey, Keeps};
 
-use key_instances::octets::key_octets;
-use key_instances::{Instances, PutFault};
+use crate::instances::held::Held;
+use key_instances::octets::{key_octets, packed_key_octets};
+use key_instances::{LastValues, PutFault};
+use packed_reader::read_plain;
 use settled_parts::Outcome;
 use shape_laws::{key_octets_bound, sample_typed};
 use std::alloc::Global;
@@ -36,24 +41,39 @@ fn refuse_key(alloc: Global) -> Stop
     }
 }
 
+// What is kept of a sample, under its key, whatever value it stands for.
+fn put_held(alloc: Global, key: Text, held: Held, cache: &mut LastValues<Held>) -> Result<(), Stop>
+    requires most { cache.old.most ≡ 65536 }
+    ensures put { (f : Held → Val) → Keeps (put_turn cache.old.depth (shown_as f cache.old) key (f held)) (shown_as f cache.new) result }
+    ensures depth { cache.new.depth ≡ cache.old.depth }
+    ensures most { cache.new.most ≡ cache.old.most }
+{
+    match cache.put(key, held) {
+        Ok(()) => Ok(()),
+        Err(PutFault::Full) => Err(refuse_key(alloc)),
+        Err(PutFault::OutOfMemory) => Err(Stop::Halted(Halt::OutOfMemory)),
+    }
+}
+
 // A value under its key.
-fn put_value(alloc: Global, ty: &XType, value: Value, cache: &mut Instances) -> Result<(), Stop>
+fn put_value(
+    alloc: Global,
+    ty: &XType,
+    value: Value,
+    cache: &mut LastValues<Held>,
+) -> Result<(), Stop>
     requires valid { IsValid ty.now }
     requires typed { IsTrue (has_type (type_shape ty.now) (val value)) }
     requires few { length (spec.key_octets (type_shape ty.now) (val value)) < 2 ^ 32 }
     requires most { cache.old.most ≡ 65536 }
-    ensures put { Keeps (outcome_turn cache.old.depth (tree ty.now) (instances cache.old) (Ok (sample (val value)))) (instances cache.new) result }
+    ensures put { (rep : Rep) → Keeps (outcome_turn cache.old.depth (tree ty.now) (shown_as (held_val rep (tree ty.now)) cache.old) (Ok (sample (val value)))) (shown_as (held_val rep (tree ty.now)) cache.new) result }
     ensures depth { cache.new.depth ≡ cache.old.depth }
     ensures most { cache.new.most ≡ cache.old.most }
 {
     let Ok(key) = key_octets(alloc, ty, &value) else {
         return Err(Stop::Halted(Halt::OutOfMemory));
     };
-    match cache.put(key, value) {
-        Ok(()) => Ok(()),
-        Err(PutFault::Full) => Err(refuse_key(alloc)),
-        Err(PutFault::OutOfMemory) => Err(Stop::Halted(Halt::OutOfMemory)),
-    }
+    put_held(alloc, key, Held::Value(value), cache)
 }
 
 // What the reader's type makes of a sample.
@@ -61,12 +81,12 @@ fn put_outcome(
     alloc: Global,
     ty: &XType,
     outcome: Outcome,
-    cache: &mut Instances,
+    cache: &mut LastValues<Held>,
 ) -> Result<(), Stop>
     requires valid { IsValid ty.now }
     requires key { HasKey (type_shape ty.now) (outcome_val outcome) }
     requires most { cache.old.most ≡ 65536 }
-    ensures put { Keeps (outcome_turn cache.old.depth (tree ty.now) (instances cache.old) (Ok (outcome_val outcome))) (instances cache.new) result }
+    ensures put { (rep : Rep) → Keeps (outcome_turn cache.old.depth (tree ty.now) (shown_as (held_val rep (tree ty.now)) cache.old) (Ok (outcome_val outcome))) (shown_as (held_val rep (tree ty.now)) cache.new) result }
     ensures depth { cache.new.depth ≡ cache.old.depth }
     ensures most { cache.new.most ≡ cache.old.most }
 {
@@ -76,19 +96,18 @@ fn put_outcome(
     }
 }
 
-/// Puts the value that the reader's type makes of a sample under its key. A sample that is discarded, must be understood or is malformed is
-/// passed over. A key too many is refused. After a stop the cache is unchanged.
-pub fn put_sample(
+// The value that the reader's type makes of a sample that has to be read in general, under its key.
+fn put_general(
     alloc: Global,
     rep: Rep,
     ty: &XType,
     payload: &[u8],
-    cache: &mut Instances,
+    cache: &mut LastValues<Held>,
 ) -> Result<(), Stop>
     requires valid { IsValid ty.now }
     requires size { length payload.now ≤ 1048576 }
     requires most { cache.old.most ≡ 65536 }
-    ensures put { Keeps (payload_turn cache.old.depth rep (tree ty.now) (instances cache.old) payload.now) (instances cache.new) result }
+    ensures put { Keeps (payload_turn cache.old.depth rep (tree ty.now) (shown_as (held_val rep (tree ty.now)) cache.old) payload.now) (shown_as (held_val rep (tree ty.now)) cache.new) result }
     ensures depth { cache.new.depth ≡ cache.old.depth }
     ensures most { cache.new.most ≡ cache.old.most }
 {
@@ -104,4 +123,47 @@ pub fn put_sample(
             Err(Stop::Halted(Halt::OutOfMemory))
         }
     }
+}
+
+// The key of a plain sample. None says nothing.
+fn plain_key(alloc: Global, rep: Rep, ty: &XType, payload: &[u8]) -> Option<Text>
+    requires valid { IsValid ty.now }
+    requires size { length payload.now ≤ 1048576 }
+    ensures { IfSome result (λ key. HasKeyRead rep (type_shape ty.now) payload.now key) }
+{
+    shape_keeps_rules();
+    is_within_limits();
+    sample_typed();
+    key_octets_bound();
+    let value = read_plain(alloc, rep, ty, payload)?;
+    match packed_key_octets(alloc, ty, &value) {
+        Ok(key) => Some(key),
+        Err(_) => None,
+    }
+}
+
+/// Puts the value that the reader's type makes of a sample under its key: of a plain sample the octets are kept, which is looked for where
+/// there is a plan of the type. A sample that is discarded, must be understood or is malformed is passed over. A key too many is refused.
+/// After a stop the cache is unchanged.
+pub fn put_sample(
+    alloc: Global,
+    rep: Rep,
+    ty: &XType,
+    is_planned: bool,
+    payload: Text,
+    cache: &mut LastValues<Held>,
+) -> Result<(), Stop>
+    requires valid { IsValid ty.now }
+    requires size { length payload ≤ 1048576 }
+    requires most { cache.old.most ≡ 65536 }
+    ensures put { Keeps (payload_turn cache.old.depth rep (tree ty.now) (shown_as (held_val rep (tree ty.now)) cache.old) payload) (shown_as (held_val rep (tree ty.now)) cache.new) result }
+    ensures depth { cache.new.depth ≡ cache.old.depth }
+    ensures most { cache.new.most ≡ cache.old.most }
+{
+    if is_planned {
+        if let Some(key) = plain_key(alloc, rep, ty, payload.octets()) {
+            return put_held(alloc, key, Held::Octets(payload), cache);
+        }
+    }
+    put_general(alloc, rep, ty, payload.octets(), cache)
 }
