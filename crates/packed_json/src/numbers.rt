@@ -94,11 +94,13 @@ fn put_number(prim: Prim, order: Order, octets: &[u8], out: &mut Text) -> Option
     put_prim(prim, prim_value(prim, number(order, octets)), out)
 }
 
-/// Appends the JSON of a list of numbers, behind its opening bracket. None says nothing, and what was appended is to be thrown away.
-pub(crate) fn put_numbers(numbers: &Numbers<'_>, out: &mut Text) -> Option<()>
+// A list of numbers of that primitive, behind its opening bracket. Where the call names the primitive, the compiler makes a loop for it alone.
+#[inline(always)]
+fn put_numbers(prim: Prim, numbers: &Numbers<'_>, out: &mut Text) -> Option<()>
+    requires { prim ≡ numbers.now.prim }
     ensures { IfSome result (λ u. out.new ≡ out.old ++ numbers_text numbers.now.prim numbers.now.order false numbers.now.count numbers.now.octets.now) }
 {
-    let size = prim_size(numbers.prim) as usize;
+    let size = prim_size(prim) as usize;
     let mut rest = numbers.octets;
     let mut is_later = false;
     for turn in 0..numbers.count {
@@ -107,7 +109,7 @@ pub(crate) fn put_numbers(numbers: &Numbers<'_>, out: &mut Text) -> Option<()>
         }
         put_comma(is_later, out)?;
         let (first, more) = rest.split_at(size);
-        put_number(numbers.prim, numbers.order, first, out)?;
+        put_number(prim, numbers.order, first, out)?;
         rest = more;
         is_later = true;
     }
@@ -154,12 +156,15 @@ fn put_bytes(order: Order, count: u64, octets: &[u8], out: &mut Text) -> Option<
     Some(())
 }
 
-/// Appends the JSON of a list of numbers, behind its opening bracket.
+/// Appends the JSON of a list of numbers, behind its opening bracket. None says nothing, and what was appended is to be thrown away.
 pub(crate) fn put_list(numbers: &Numbers<'_>, out: &mut Text) -> Option<()>
     ensures { IfSome result (λ u. out.new ≡ out.old ++ numbers_text numbers.now.prim numbers.now.order false numbers.now.count numbers.now.octets.now) }
 {
     match numbers.prim {
         Prim::Byte => put_bytes(numbers.order, numbers.count, numbers.octets, out),
-        _ => put_numbers(numbers, out),
+        Prim::Float64 => put_numbers(Prim::Float64, numbers, out),
+        Prim::Float32 => put_numbers(Prim::Float32, numbers, out),
+        Prim::Int32 => put_numbers(Prim::Int32, numbers, out),
+        prim => put_numbers(prim, numbers, out),
     }
 }
