@@ -91,7 +91,8 @@ impl Shows for Lines {
         line(outcome_text(alloc, ty, outcome)?)
     }
 
-    // A line mostly has at most three times as many octets as its sample, so that its memory is asked for once.
+    // A line mostly has at most four times as many octets as its sample (octets have up to three digits and a comma each), so that its memory
+    // is asked for once.
     fn plain(
         &self,
         alloc: Global,
@@ -100,7 +101,7 @@ impl Shows for Lines {
         value: &Packed<'_>,
         octets: usize,
     ) -> Option<Text> {
-        let mut text = begun_line(alloc, octets.min(MOST_OCTETS) * 3)?;
+        let mut text = begun_line(alloc, octets.min(MOST_OCTETS) * 4)?;
         write_value(plan, value, &mut text)?;
         match text.push(b'\n') {
             Ok(()) => Some(text),

@@ -1,4 +1,4 @@
-ghost use Rattle.std.specs.Prelude.{◌≡◌, ◌≤◌, ◌++◌, IfOk, IfSome, OnOk, OnErr};
+ghost use Rattle.std.specs.Prelude.{◌≡◌, ◌≤◌, ◌++◌, ◌∷◌, [], ℕ, List, IfOk, IfSome, OnOk, OnErr};
 ghost use Rattle.std.specs.Io.KnownBytes.{Appends};
 ghost use Rattle.xt_io.specs.Outside.{AppendsAll, AppendsPrefix, HasCause};
 ghost use Rattle.tool_runs.specs.output.Runs.{HaltsWriting};
@@ -39,12 +39,45 @@ pub fn sample_record(
     }
 }
 
+// The octets of a record's head.
+const HEAD: usize = 5;
+
 // The head of a sample's record.
 fn sample_head(octets: u32) -> [u8; 5]
     ensures { result ≡ head_octets Kind.Sample octets }
 {
     let [first, second, third, fourth] = octets.to_be_bytes();
     [Kind::Sample.octet(), first, second, third, fourth]
+}
+
+// Zeros where the head of a record goes, and room behind them for a sample of about so many octets.
+fn begun_record(alloc: Global, octets: usize) -> Option<Vec<u8>>
+    ensures { IfSome result (λ front. front.items ≡ 0 ∷ 0 ∷ 0 ∷ 0 ∷ 0 ∷ []) }
+{
+    let Ok(mut front) = Vec::with_capacity(alloc, octets.min(MOST_OCTETS) + 64) else {
+        return None;
+    };
+    match front.extend_from_slice(&[0; HEAD]) {
+        Ok(()) => Some(front),
+        Err(_) => None,
+    }
+}
+
+// A sample's record, whose head stands in zeros, with its head. None where no head can tell how long the sample is.
+fn with_head(piece: Vec<u8>) -> Option<Vec<u8>>
+    ensures { IfSome result (λ all. (sample : List ℕ) → piece.items ≡ 0 ∷ 0 ∷ 0 ∷ 0 ∷ 0 ∷ sample → all.items ≡ record_octets Kind.Sample sample) }
+{
+    let mut all = piece;
+    let Some(octets) = all.len().checked_sub(HEAD) else {
+        return None;
+    };
+    let Ok(octets) = u32::try_from(octets) else {
+        return None;
+    };
+    let head = sample_head(octets);
+    let (front, _) = all.split_at_mut(HEAD);
+    front.copy_from_slice(&head);
+    Some(all)
 }
 
 /// The sample of a plain value in little-endian order. It mostly has about as many octets as the sample that was read, for which memory is
@@ -75,11 +108,9 @@ pub fn plain_sample_record(
 ) -> Option<Text>
     ensures { IfSome result (λ piece. piece ≡ record_octets Kind.Sample (fixed_sample rep Order.Little (type_shape ty.now) (packed_val value.now))) }
 {
-    let sample = plain_sample(alloc, rep, ty, value, read)?;
-    match record(alloc, Kind::Sample, sample.octets()) {
-        Ok(piece) => Some(piece),
-        Err(_) => None,
-    }
+    let front = begun_record(alloc, read)?;
+    let all = with_head(write_plain(rep, ty, value, front)?)?;
+    Some(Text::from_vec(all))
 }
 
 // A head, and the sample of a value behind it.
