@@ -1,11 +1,15 @@
 //! The calls on types and values, and their answers in print.
+ghost use Rattle.std.specs.Prelude.{◌≡◌, None};
+ghost use Rattle.type_trees.specs.View.{tree};
+ghost use Rattle.type_rules.specs.Valid.{type_fault};
+
 use crate::answers::Answer;
 use crate::cases::Case;
 use crate::parts::{hashed, headed, noted, put_each, referred, settled};
 use crate::samples::{body_read, sample_again, sample_read, told};
 use crate::trouble::Trouble;
 use crate::values::{
-    given_value, json_of, pairs_of, string_of, taped_value, type_of, types_of, value_of,
+    given_value, json_of, json_told, pairs_of, string_of, taped_value, type_of, types_of, value_of,
 };
 use crate::writing::{body_written, rep_of, sample_faults, sample_written, text_size};
 use assignability::{equivalent, judge, judge_under};
@@ -99,14 +103,14 @@ fn typed(alloc: Global, case: &Case<'_>) -> Result<Answer, Trouble> {
     if as_map(&ty).is_none() {
         return Ok(Answer::Is(has_type(&ty, &value)));
     }
-    let map = Value::Map(pairs_of(alloc, value)?);
+    let map = Box::new(alloc, Value::Map(pairs_of(alloc, value)?))?;
     Ok(Answer::Is(has_type(&ty, &map)))
 }
 
 fn default_of(alloc: Global, case: &Case<'_>) -> Result<Answer, Trouble> {
     let ty = type_of(alloc, case.ty)?;
     let value = default_value(alloc, &ty)?;
-    Ok(Answer::Text(json_of(alloc, &ty, &value)?))
+    json_told(alloc, &ty, &value)
 }
 
 /// The IDL of these types, without its last line feed.
@@ -125,18 +129,31 @@ fn under_a_name(alloc: Global, structure: StructType) -> Result<Row<Named>, Trou
     Ok(types)
 }
 
+/// Whether a copy of the type says what it copies.
+fn is_type_copied(alloc: Global, ty: &XType) -> Result<bool, OutOfMemory> {
+    Ok(same_type(&copy_type(alloc, ty)?, ty))
+}
+
+/// Whether the JSON of a copy of the value is that of the value.
+fn is_value_copied(alloc: Global, ty: &XType, value: &Value) -> Result<bool, Trouble>
+    requires { type_fault (tree ty.now) ≡ None }
+{
+    let text = json_of(alloc, ty, value)?;
+    let copy = Box::new(alloc, copy_value(alloc, value)?)?;
+    Ok(json_of(alloc, ty, &copy)?.as_str() == text.as_str())
+}
+
 /// `same` where copies of the type and of the value say what they copy.
 fn copied(alloc: Global, case: &Case<'_>) -> Result<Answer, Trouble> {
     let ty = type_of(alloc, case.ty)?;
-    if !same_type(&copy_type(alloc, &ty)?, &ty) {
+    if !is_type_copied(alloc, &ty)? {
         return Ok(Answer::Word("another type"));
     }
     let value = value_of(alloc, &ty, case.value)?;
-    let copy = copy_value(alloc, &value)?;
-    if json_of(alloc, &ty, &copy)?.as_str() != json_of(alloc, &ty, &value)?.as_str() {
-        return Ok(Answer::Word("another value"));
+    if is_value_copied(alloc, &ty, &value)? {
+        return Ok(Answer::Word("same"));
     }
-    Ok(Answer::Word("same"))
+    Ok(Answer::Word("another value"))
 }
 
 fn base(alloc: Global, case: &Case<'_>) -> Result<Answer, Trouble> {
@@ -158,14 +175,14 @@ fn same_keys(alloc: Global, case: &Case<'_>) -> Result<Answer, Trouble> {
 fn json(alloc: Global, case: &Case<'_>) -> Result<Answer, Trouble> {
     let ty = type_of(alloc, case.ty)?;
     let value = given_value(alloc, case)?;
-    Ok(Answer::Text(json_of(alloc, &ty, &value)?))
+    json_told(alloc, &ty, &value)
 }
 
 /// The JSON of the value that is read from a tape, or `none`.
 fn taped(alloc: Global, case: &Case<'_>) -> Result<Answer, Trouble> {
     let ty = type_of(alloc, case.ty)?;
     match taped_value(alloc, &ty, case.value) {
-        Some(value) => Ok(Answer::Text(json_of(alloc, &ty, &value)?)),
+        Some(value) => json_told(alloc, &ty, &value),
         None => Ok(Answer::Word("none")),
     }
 }
@@ -196,7 +213,7 @@ fn part_told(alloc: Global, ty: Option<&XType>, part: &Value) -> Result<Answer, 
     if check_type(ty).is_err() {
         return Err(Trouble::Words);
     }
-    Ok(Answer::Text(json_of(alloc, ty, part)?))
+    json_told(alloc, ty, part)
 }
 
 fn names_of(alloc: Global, words: &str) -> Result<Row<Text>, OutOfMemory> {
@@ -210,12 +227,13 @@ fn names_of(alloc: Global, words: &str) -> Result<Row<Text>, OutOfMemory> {
 /// The part of the value that these names lead to, a structure's by its members' names.
 fn got(alloc: Global, words: &str, case: &Case<'_>) -> Result<Answer, Trouble> {
     let names = names_of(alloc, words)?;
+    let names = names.as_slice();
     let ty = type_of(alloc, case.ty)?;
     let value = value_of(alloc, &ty, case.value)?;
-    let Some(part) = get(&ty, &value, names.as_slice()) else {
-        return Ok(Answer::Word("none"));
-    };
-    part_told(alloc, type_at(&ty, names.as_slice()), part)
+    match get(&ty, &value, names) {
+        Some(part) => part_told(alloc, type_at(&ty, names), part),
+        None => Ok(Answer::Word("none")),
+    }
 }
 
 /// The standard policy, changed as the words say.

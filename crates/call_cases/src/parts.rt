@@ -3,12 +3,12 @@ use crate::answers::Answer;
 use crate::cases::Case;
 use crate::samples::octets_of;
 use crate::trouble::Trouble;
-use crate::values::{given_value, json_of, type_of, value_of};
+use crate::values::{given_value, json_told, type_of, value_of};
 use key_instances::{Instances, PutFault};
 use settled_parts::{Built, settle};
 use std::alloc::Global;
 use type_object::{read_object, references};
-use type_trees::{Slot, hash_id, name_hash};
+use type_trees::{HashId, Slot, hash_id, name_hash};
 use xt_annotations::{NoteFault, read_note};
 use xt_io::{BundleReader, Kind, SureSource};
 use xt_lists::Text;
@@ -38,10 +38,17 @@ fn try_of(word: &str) -> Result<Try, Trouble> {
 
 /// What becomes of the value where it was shortened to its bound, in a member that isn't optional.
 pub fn settled(alloc: Global, word: &str, case: &Case<'_>) -> Result<Answer, Trouble> {
+    let tried = try_of(word)?;
     let ty = type_of(alloc, case.ty)?;
     let value = value_of(alloc, &ty, case.value)?;
-    match settle(alloc, try_of(word)?, false, &ty, Built::Over(value))? {
-        Built::Got(Slot::Present(value)) => Ok(Answer::Text(json_of(alloc, &ty, &value)?)),
+    match settle(
+        alloc,
+        tried,
+        false,
+        &ty,
+        Built::Over(Box::into_inner(value)),
+    )? {
+        Built::Got(Slot::Present(value)) => json_told(alloc, &ty, &value),
         Built::Got(Slot::Absent) => Ok(Answer::Word("absent")),
         Built::Over(_) => Ok(Answer::Word("over")),
         Built::Failed => Ok(Answer::Word("failed")),
@@ -72,8 +79,13 @@ pub fn referred(alloc: Global, digits: &str) -> Result<Answer, Trouble> {
     let Ok(object) = read_object(alloc, octets.as_slice()) else {
         return Ok(Answer::Word("no object"));
     };
+    ids_told(alloc, references(alloc, &object)?.as_slice())
+}
+
+/// Identifiers, with a blank between them.
+fn ids_told(alloc: Global, ids: &[HashId]) -> Result<Answer, Trouble> {
     let mut text = String::new(alloc);
-    for id in references(alloc, &object)?.as_slice() {
+    for id in ids {
         let one = format!(in alloc; "{id} ")?;
         text.push_str(one.as_str())?;
     }
@@ -108,6 +120,24 @@ pub fn headed(alloc: Global, digits: &str) -> Result<Answer, Trouble> {
     Ok(Answer::Text(format!(in alloc; "{kind} at {} length {}: {payload}", head.at, head.length)?))
 }
 
+/// What becomes of the value under a key.
+fn put_under(
+    alloc: Global,
+    cache: &mut Instances,
+    key: &str,
+    case: &Case<'_>,
+) -> Result<&'static str, Trouble> {
+    let value = given_value(alloc, case)?;
+    match cache.put(
+        Text::from_octets(alloc, key.as_bytes())?,
+        Box::into_inner(value),
+    ) {
+        Ok(()) => Ok("taken "),
+        Err(PutFault::Full) => Ok("full "),
+        Err(PutFault::OutOfMemory) => Err(Trouble::OutOfMemory),
+    }
+}
+
 /// What becomes of the value under one key after another, where there may be so many keys and one value of each.
 pub fn put_each(alloc: Global, words: &str, case: &Case<'_>) -> Result<Answer, Trouble> {
     let (most, keys) = words.split_once(' ').unwrap_or((words, ""));
@@ -120,12 +150,7 @@ pub fn put_each(alloc: Global, words: &str, case: &Case<'_>) -> Result<Answer, T
     let mut cache = Instances::new(alloc, 1, most)?;
     let mut told = String::new(alloc);
     for key in keys.split_whitespace() {
-        let value = given_value(alloc, case)?;
-        match cache.put(Text::from_octets(alloc, key.as_bytes())?, value) {
-            Ok(()) => told.push_str("taken ")?,
-            Err(PutFault::Full) => told.push_str("full ")?,
-            Err(PutFault::OutOfMemory) => return Err(Trouble::OutOfMemory),
-        }
+        told.push_str(put_under(alloc, &mut cache, key, case)?)?;
     }
     Ok(Answer::Text(String::from_str(alloc, told.as_str().trim_end())?))
 }

@@ -10,7 +10,7 @@ use crate::values::{json_of, type_of};
 use crate::writing::{hex_of, rep_of, sample_octets};
 use settled_parts::Outcome;
 use std::alloc::Global;
-use type_trees::XType;
+use type_trees::{Value, XType};
 use xcdr_reader::{decode1, decode2};
 use xcdr_samples::{read_sample1, read_sample2};
 use xt_io::{BundleReader, Kind, MemSink, MemSource, write_record};
@@ -110,11 +110,17 @@ fn streamed(
 {
     let bundle = record_of(alloc, payload)?;
     let mut cursor = cursor_over(bundle.octets(), most).ok_or(Trouble::Words)?;
-    let answer = answer_of(alloc, ty, sample_of(alloc, rep, ty, &mut cursor))?;
-    if cursor.end().next_head() != Ok(None) {
-        return Err(Trouble::Words);
+    let outcome = sample_of(alloc, rep, ty, &mut cursor);
+    if is_at_the_end(cursor.end()) {
+        return answer_of(alloc, ty, outcome);
     }
-    Ok(answer)
+    Err(Trouble::Words)
+}
+
+/// Whether a bundle ends behind what was read of it.
+fn is_at_the_end(reader: BundleReader<MemSource<'_>>) -> bool {
+    let mut reader = reader;
+    reader.next_head() == Ok(None)
 }
 
 /// Whether the sample is read as this answer from a record whose source gives at most so many octets in a call.
@@ -132,24 +138,43 @@ fn is_streamed(
     Ok(said(alloc, &other)?.as_str() == answer)
 }
 
+/// Whether the sample is read as this answer from records whose sources give at most 1, 2, 3 and 7 octets in a call.
+fn is_read_from_each(
+    alloc: Global,
+    rep: Rep,
+    ty: &XType,
+    payload: &[u8],
+    answer: &Answer,
+) -> Result<bool, Trouble>
+    requires { type_fault (tree ty.now) ≡ None }
+{
+    let told = said(alloc, answer)?;
+    for most in [1, 2, 3, 7] {
+        if !is_streamed(alloc, rep, ty, payload, most, told.as_str())? {
+            return Ok(false);
+        }
+    }
+    Ok(true)
+}
+
+/// What the octets are read as by a cursor over memory, where cursors over streams say the same.
+fn payload_read(alloc: Global, rep: Rep, ty: &XType, payload: &[u8]) -> Result<Answer, Trouble>
+    requires { type_fault (tree ty.now) ≡ None }
+{
+    let mut cursor = SliceCursor::new(payload);
+    let answer = answer_of(alloc, ty, sample_of(alloc, rep, ty, &mut cursor))?;
+    if is_read_from_each(alloc, rep, ty, payload, &answer)? {
+        return Ok(answer);
+    }
+    Ok(Answer::Word("another answer from a stream"))
+}
+
 /// What the octets are read as by a cursor over memory, where cursors over streams of 1, 2, 3 and 7 octets a call say the same.
 pub fn sample_read(alloc: Global, words: &str, case: &Case<'_>) -> Result<Answer, Trouble> {
     let rep = rep_named(words)?;
     let ty = type_of(alloc, case.ty)?;
     let payload = octets_of(alloc, case.octets)?;
-    let payload = payload.as_slice();
-    let mut cursor = SliceCursor::new(payload);
-    let answer = answer_of(alloc, &ty, sample_of(alloc, rep, &ty, &mut cursor))?;
-    let told = said(alloc, &answer)?;
-    let told = told.as_str();
-    if is_streamed(alloc, rep, &ty, payload, 1, told)?
-        && is_streamed(alloc, rep, &ty, payload, 2, told)?
-        && is_streamed(alloc, rep, &ty, payload, 3, told)?
-        && is_streamed(alloc, rep, &ty, payload, 7, told)?
-    {
-        return Ok(answer);
-    }
-    Ok(Answer::Word("another answer from a stream"))
+    payload_read(alloc, rep, &ty, payload.as_slice())
 }
 
 /// Reads the body at the front of a cursor's region, little-endian.
@@ -181,10 +206,10 @@ fn is_left(
 {
     let bundle = record_of(alloc, payload)?;
     let mut cursor = cursor_over(bundle.octets(), most).ok_or(Trouble::Words)?;
-    let outcome = body_of(alloc, rep, ty, &mut cursor);
+    let is_read = body_of(alloc, rep, ty, &mut cursor).is_ok();
     let mut reader = cursor.end();
     match reader.payload(alloc) {
-        Ok(rest) => Ok(outcome.is_ok() && rest.octets() == left),
+        Ok(rest) => Ok(is_read && rest.octets() == left),
         Err(_) => Ok(false),
     }
 }
@@ -195,14 +220,21 @@ pub fn body_read(alloc: Global, words: &str, case: &Case<'_>) -> Result<Answer, 
     let rep = rep_named(words)?;
     let ty = type_of(alloc, case.ty)?;
     let body = octets_of(alloc, case.octets)?;
-    let body = body.as_slice();
+    body_told(alloc, rep, &ty, body.as_slice())
+}
+
+fn body_told(alloc: Global, rep: Rep, ty: &XType, body: &[u8]) -> Result<Answer, Trouble>
+    requires { type_fault (tree ty.now) ≡ None }
+{
     let mut cursor = SliceCursor::new(body);
-    let outcome = body_of(alloc, rep, &ty, &mut cursor);
+    let outcome = body_of(alloc, rep, ty, &mut cursor);
     let (_, left) = body.split_at((cursor.place() as usize).min(body.len()));
-    if outcome.is_ok() && !is_left(alloc, rep, &ty, body, 3, left)? {
+    let is_read = outcome.is_ok();
+    let answer = answer_of(alloc, ty, outcome)?;
+    if is_read && !is_left(alloc, rep, ty, body, 3, left)? {
         return Ok(Answer::Word("other octets are left of a stream"));
     }
-    answer_of(alloc, &ty, outcome)
+    Ok(answer)
 }
 
 /// The order that the last bit of a payload's second octet names.
@@ -220,10 +252,20 @@ pub fn sample_again(alloc: Global, words: &str, case: &Case<'_>) -> Result<Answe
     let payload = octets_of(alloc, case.octets)?;
     let payload = payload.as_slice();
     let mut cursor = SliceCursor::new(payload);
-    let Ok(Outcome::Sample(value)) = sample_of(alloc, rep, &ty, &mut cursor) else {
-        return Ok(Answer::Word("no sample"));
-    };
-    match sample_octets(alloc, rep, &ty, &value, order_of(payload))? {
+    match sample_of(alloc, rep, &ty, &mut cursor) {
+        Ok(Outcome::Sample(value)) => written_again(alloc, rep, &ty, &value, payload),
+        _ => Ok(Answer::Word("no sample")),
+    }
+}
+
+fn written_again(
+    alloc: Global,
+    rep: Rep,
+    ty: &XType,
+    value: &Value,
+    payload: &[u8],
+) -> Result<Answer, Trouble> {
+    match sample_octets(alloc, rep, ty, value, order_of(payload))? {
         Some(written) if written.as_slice() == payload => Ok(Answer::Word("same")),
         written => hex_of(alloc, written),
     }

@@ -3,6 +3,7 @@ ghost use Rattle.std.specs.Prelude.{◌≡◌, None, IfOk};
 ghost use Rattle.type_trees.specs.View.{tree};
 ghost use Rattle.type_rules.specs.Valid.{type_fault};
 
+use crate::answers::Answer;
 use crate::cases::Case;
 use crate::trouble::Trouble;
 use dynamic_data::{from_json, read_taped, to_json};
@@ -26,11 +27,11 @@ pub fn types_of(alloc: Global, text: &str) -> Result<Row<Named>, Trouble> {
 }
 
 /// The type, if it breaks no rule.
-fn checked(alloc: Global, ty: XType) -> Result<XType, Trouble>
-    ensures { IfOk result (λ ty. type_fault (tree ty) ≡ None) }
+fn checked(alloc: Global, ty: XType) -> Result<Box<XType>, Trouble>
+    ensures { IfOk result (λ ty. type_fault (tree ty.value) ≡ None) }
 {
     match check_type(&ty) {
-        Ok(()) => Ok(ty),
+        Ok(()) => Ok(Box::new(alloc, ty)?),
         Err(fault) => Err(Trouble::Invalid {
             rule: fault.rule,
             node: format!(in alloc; "{}", fault.node)?,
@@ -38,9 +39,10 @@ fn checked(alloc: Global, ty: XType) -> Result<XType, Trouble>
     }
 }
 
-/// The last type that the text declares. It breaks no rule.
-pub fn type_of(alloc: Global, text: &str) -> Result<XType, Trouble>
-    ensures { IfOk result (λ ty. type_fault (tree ty) ≡ None) }
+/// The last type that the text declares. It breaks no rule. It comes in a box, as values do: letting go of a box is one call, and of a type
+/// a part of its own for each kind of type, which is proved again at each place where a call may end.
+pub fn type_of(alloc: Global, text: &str) -> Result<Box<XType>, Trouble>
+    ensures { IfOk result (λ ty. type_fault (tree ty.value) ≡ None) }
 {
     match types_of(alloc, text)?.pop() {
         Some(named) => checked(alloc, named.ty),
@@ -49,10 +51,10 @@ pub fn type_of(alloc: Global, text: &str) -> Result<XType, Trouble>
 }
 
 /// The value that the JSON gives for the type.
-pub fn value_of(alloc: Global, ty: &XType, json: &str) -> Result<Value, Trouble>
+pub fn value_of(alloc: Global, ty: &XType, json: &str) -> Result<Box<Value>, Trouble>
     requires { type_fault (tree ty.now) ≡ None }
 {
-    Ok(from_json(alloc, ty, json.as_bytes())?)
+    Ok(Box::new(alloc, from_json(alloc, ty, json.as_bytes())?)?)
 }
 
 /// The value that a tape of the JSON's tokens gives for the type, if it gives one.
@@ -64,7 +66,7 @@ pub fn taped_value(alloc: Global, ty: &XType, json: &str) -> Option<Value>
 }
 
 /// The value of a case, of the writer's type where there is one.
-pub fn given_value(alloc: Global, case: &Case<'_>) -> Result<Value, Trouble> {
+pub fn given_value(alloc: Global, case: &Case<'_>) -> Result<Box<Value>, Trouble> {
     let text = if case.writer.is_empty() {
         case.ty
     } else {
@@ -88,18 +90,21 @@ fn pair_of(alloc: Global, item: &Value) -> Result<Pair, Trouble> {
     })
 }
 
-/// The pairs of a map, or those that a list stands for: in no map that JSON gives does a key come again.
-pub fn pairs_of(alloc: Global, value: Value) -> Result<Row<Pair>, Trouble> {
-    let items = match value {
-        Value::Map(pairs) => return Ok(pairs),
-        Value::List(items) => items,
-        _ => return Err(Trouble::Words),
-    };
+fn listed_pairs(alloc: Global, items: &[Value]) -> Result<Row<Pair>, Trouble> {
     let mut pairs = Row::new(alloc);
-    for item in items.as_slice() {
+    for item in items {
         pairs.push(pair_of(alloc, item)?)?;
     }
     Ok(pairs)
+}
+
+/// The pairs of a map, or those that a list stands for: in no map that JSON gives does a key come again.
+pub fn pairs_of(alloc: Global, value: Box<Value>) -> Result<Row<Pair>, Trouble> {
+    match Box::into_inner(value) {
+        Value::Map(pairs) => Ok(pairs),
+        Value::List(items) => listed_pairs(alloc, items.as_slice()),
+        _ => Err(Trouble::Words),
+    }
 }
 
 /// The text as a string, where it is one.
@@ -115,4 +120,11 @@ pub fn json_of(alloc: Global, ty: &XType, value: &Value) -> Result<String, Troub
     requires { type_fault (tree ty.now) ≡ None }
 {
     string_of(alloc, &to_json(alloc, ty, value)?)
+}
+
+/// The JSON of a value, as an answer.
+pub fn json_told(alloc: Global, ty: &XType, value: &Value) -> Result<Answer, Trouble>
+    requires { type_fault (tree ty.now) ≡ None }
+{
+    Ok(Answer::Text(json_of(alloc, ty, value)?))
 }

@@ -118,23 +118,33 @@ pub fn sample_written(alloc: Global, words: &str, case: &Case<'_>) -> Result<Ans
     hex_of(alloc, sample_octets(alloc, rep, &ty, &value, order)?)
 }
 
+fn body_told(
+    alloc: Global,
+    rep: Rep,
+    ty: &XType,
+    value: &Value,
+    order: Order,
+) -> Result<Answer, Trouble> {
+    if size_by(rep, ty, value).is_none() {
+        return Ok(Answer::Word("too large"));
+    }
+    let mut out = Writer::new(MemSink::new(alloc, 5, &[]), order);
+    if encode_by(rep, ty, value, &mut out).is_err() {
+        return Err(Trouble::OutOfMemory);
+    }
+    let body = out.end();
+    if rep == Rep::Xcdr2 && !is_encoded_as(alloc, ty, value, order, body.octets()) {
+        return Ok(Answer::Word("two bodies"));
+    }
+    Ok(Answer::Text(hex::encode(alloc, body.octets())?))
+}
+
 /// The body that the value is written as.
 pub fn body_written(alloc: Global, words: &str, case: &Case<'_>) -> Result<Answer, Trouble> {
     let (rep, order) = form_of(words)?;
     let ty = type_of(alloc, case.ty)?;
     let value = value_of(alloc, &ty, case.value)?;
-    if size_by(rep, &ty, &value).is_none() {
-        return Ok(Answer::Word("too large"));
-    }
-    let mut out = Writer::new(MemSink::new(alloc, 5, &[]), order);
-    if encode_by(rep, &ty, &value, &mut out).is_err() {
-        return Err(Trouble::OutOfMemory);
-    }
-    let body = out.end();
-    if rep == Rep::Xcdr2 && !is_encoded_as(alloc, &ty, &value, order, body.octets()) {
-        return Ok(Answer::Word("two bodies"));
-    }
-    Ok(Answer::Text(hex::encode(alloc, body.octets())?))
+    body_told(alloc, rep, &ty, &value, order)
 }
 
 /// Whether `encode_value` writes this body too.
@@ -171,22 +181,34 @@ fn is_refused(
     None
 }
 
-/// In how many calls the sample is written, of three octets at most. A sink that fails at any of them refuses it.
-pub fn sample_faults(alloc: Global, words: &str, case: &Case<'_>) -> Result<Answer, Trouble> {
-    let (rep, order) = form_of(words)?;
-    let ty = type_of(alloc, case.ty)?;
-    let value = value_of(alloc, &ty, case.value)?;
-    let Some(whole) = sample_octets(alloc, rep, &ty, &value, order)? else {
-        return Ok(Answer::Word("too large"));
-    };
+/// In how many calls these octets are written, where a sink that fails at any of them refuses the sample.
+fn calls_told(
+    alloc: Global,
+    rep: Rep,
+    ty: &XType,
+    value: &Value,
+    order: Order,
+    whole: &[u8],
+) -> Result<Answer, Trouble> {
     for calls in 0..1_000u64 {
-        match is_refused(alloc, rep, &ty, &value, order, calls + 1, whole.as_slice()) {
+        match is_refused(alloc, rep, ty, value, order, calls + 1, whole) {
             Some(true) => {}
             Some(false) => return Ok(Answer::Count(calls)),
             None => return Ok(Answer::Word("other octets")),
         }
     }
     Err(Trouble::Words)
+}
+
+/// In how many calls the sample is written, of three octets at most. A sink that fails at any of them refuses it.
+pub fn sample_faults(alloc: Global, words: &str, case: &Case<'_>) -> Result<Answer, Trouble> {
+    let (rep, order) = form_of(words)?;
+    let ty = type_of(alloc, case.ty)?;
+    let value = value_of(alloc, &ty, case.value)?;
+    match sample_octets(alloc, rep, &ty, &value, order)? {
+        Some(whole) => calls_told(alloc, rep, &ty, &value, order, whole.as_slice()),
+        None => Ok(Answer::Word("too large")),
+    }
 }
 
 /// A text of so many octets.
@@ -206,7 +228,8 @@ pub fn text_size(alloc: Global, words: &str, case: &Case<'_>) -> Result<Answer, 
         return Err(Trouble::Words);
     };
     let ty = type_of(alloc, case.ty)?;
-    match size2(&ty, &Value::Str(text_of(alloc, count)?)) {
+    let text = Box::new(alloc, Value::Str(text_of(alloc, count)?))?;
+    match size2(&ty, &text) {
         Some(size) => Ok(Answer::Count(u64::from(size))),
         None => Ok(Answer::Word("too large")),
     }

@@ -94,8 +94,8 @@ impl Case {
     }
 
     /// The case of a run of lines, or None where they are comments alone.
-    pub fn parse(alloc: Global, block: &str) -> Result<Option<Case>, Trouble> {
-        let mut case = Case::new(alloc);
+    pub fn parse(alloc: Global, block: &str) -> Result<Option<Box<Case>>, Trouble> {
+        let mut case = Box::new(alloc, Case::new(alloc))?;
         let mut part = Part::Front;
         for line in block.lines() {
             if line.is_empty() || line.starts_with("#") {
@@ -109,7 +109,7 @@ impl Case {
         match part {
             Part::Front => Ok(None),
             Part::Status => Ok(Some(case)),
-            _ => Err(Trouble::Unfinished(case.name)),
+            _ => Err(Trouble::Unfinished(String::from_str(alloc, case.name.as_str())?)),
         }
     }
 

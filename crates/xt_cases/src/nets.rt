@@ -140,18 +140,27 @@ impl Outside {
         }
     }
 
-    /// The net, with links that are so. A client that connects once more finds the same peer again.
-    pub fn net(&self, alloc: Global, links: Links) -> Result<MemNet, OutOfMemory> {
+    fn mem_doors(&self, alloc: Global, links: Links) -> Result<Row<MemDoor>, OutOfMemory> {
         let mut doors = Row::new(alloc);
         for door in self.doors.as_slice() {
             doors.push(door.door(alloc, links)?)?;
         }
-        let link = match &self.link {
-            Some(peer) => Some(peer.script(alloc, links)?),
-            None => None,
-        };
+        Ok(doors)
+    }
+
+    fn script(&self, alloc: Global, links: Links) -> Result<Option<Script>, OutOfMemory> {
+        match &self.link {
+            Some(peer) => Ok(Some(peer.script(alloc, links)?)),
+            None => Ok(None),
+        }
+    }
+
+    /// The net, with links that are so. A client that connects once more finds the same peer again.
+    pub fn net(&self, alloc: Global, links: Links) -> Result<Box<MemNet>, OutOfMemory> {
         let fails = list_of(alloc, &[self.fails])?;
-        let mut net = MemNet::new(alloc, doors, link, fails);
+        let link = self.script(alloc, links)?;
+        let doors = self.mem_doors(alloc, links)?;
+        let mut net = Box::new(alloc, MemNet::new(alloc, doors, link, fails))?;
         if let Some(peer) = &self.link {
             net.add_link(peer.script(alloc, links)?)?;
         }

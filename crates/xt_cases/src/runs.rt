@@ -8,7 +8,6 @@ use crate::trouble::Trouble;
 use std::alloc::Global;
 use std::thread::Threads;
 use xt_io::{MemNet, MemSink, MemSource};
-use xt_lists::Text;
 use xt_tool::xt;
 
 /// A width that no case reaches.
@@ -133,22 +132,28 @@ fn run_faults<R: Threads + Sync>(
 impl<'c> Run<'c> {
     /// Runs the case, and compares how it ended with what is wanted.
     fn end<R: Threads + Sync>(self, rt: &R, alloc: Global) -> Result<Ran, Trouble> {
-        let (case, widths, fault) = (self.case, self.widths, self.fault);
-        let reads = list_of(alloc, &[Fault::call(fault, FaultKind::Source)])?;
-        let writes = list_of(alloc, &[Fault::call(fault, FaultKind::Sink)])?;
-        let mut input = MemSource::new(case.input_under(fault), widths.read, reads.as_slice());
-        let mut output = MemSink::new(alloc, widths.write, writes.as_slice());
-        let mut net = case.net.net(alloc, self.links())?;
-        let words = case.words.as_slice();
-        let status = xt(rt, alloc, words, &mut input, &mut output, &mut net) as u8;
-        let came = Outcome {
-            output: Text::from_octets(alloc, output.octets())?,
-            sent: sent_over(alloc, &net)?,
-            held: held_by(alloc, &net)?,
-            connections: net.connections(),
-            status,
-        };
-        let came_about = self.came_about(&input, &output, &net);
+        let reads = list_of(alloc, &[Fault::call(self.fault, FaultKind::Source)])?;
+        let writes = list_of(alloc, &[Fault::call(self.fault, FaultKind::Sink)])?;
+        let mut net = self.case.net.net(alloc, self.links())?;
+        self.end_over(rt, alloc, reads.as_slice(), writes.as_slice(), &mut net)
+    }
+
+    /// Runs the case over a source and a sink that fail at these calls, and over a net.
+    fn end_over<R: Threads + Sync>(
+        self,
+        rt: &R,
+        alloc: Global,
+        reads: &[u64],
+        writes: &[u64],
+        net: &mut MemNet,
+    ) -> Result<Ran, Trouble> {
+        let given = self.case.input_under(self.fault);
+        let mut input = MemSource::new(given, self.widths.read, reads);
+        let mut output = MemSink::new(alloc, self.widths.write, writes);
+        let words = self.case.words.as_slice();
+        let status = xt(rt, alloc, words, &mut input, &mut output, net) as u8;
+        let came_about = self.came_about(&input, &output, net);
+        let came = outcome_of(alloc, status, output.octets(), net)?;
         let failure = self.failure(alloc, &came, came_about)?;
         Ok(Ran {
             failure,
@@ -205,6 +210,22 @@ impl<'c> Run<'c> {
         let word = fault.kind.word();
         Ok(format!(in alloc; "{told}, {word} {}", fault.place)?)
     }
+}
+
+/// How a run ended with this status and output.
+fn outcome_of(
+    alloc: Global,
+    status: u8,
+    output: &[u8],
+    net: &MemNet,
+) -> Result<Box<Outcome>, Trouble> {
+    let mut came = Box::new(alloc, Outcome::new(alloc))?;
+    came.output.append(output)?;
+    came.sent = sent_over(alloc, net)?;
+    came.held = held_by(alloc, net)?;
+    came.connections = net.connections();
+    came.status = status;
+    Ok(came)
 }
 
 /// A place of which nothing is told, or of which something is though there is none.

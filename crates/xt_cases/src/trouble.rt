@@ -1,5 +1,5 @@
 //! Why the cases can't be run to their end.
-use std::alloc::AllocError;
+use std::alloc::{AllocError, AllocFailed};
 use std::io;
 use thiserror::Error;
 use xt_lists::OutOfMemory;
@@ -28,6 +28,12 @@ impl From<OutOfMemory> for Trouble {
 
 impl From<AllocError> for Trouble {
     fn from(_: AllocError) -> Trouble {
+        Trouble::OutOfMemory
+    }
+}
+
+impl<T: Drop> From<AllocFailed<T>> for Trouble {
+    fn from(_: AllocFailed<T>) -> Trouble {
         Trouble::OutOfMemory
     }
 }
