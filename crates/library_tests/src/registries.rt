@@ -48,18 +48,40 @@ fn clashes<'r, N: Naming>(
     }
 }
 
+fn knows<'r, N: Naming>(
+    registry: &'r Registry<N>,
+    alloc: Global,
+    pass: &mut Pass<'r, N>,
+    octets: &[u8],
+) -> bool
+    requires { pass.old.registry ≡ registry.now }
+    ensures { pass.new.registry ≡ registry.now }
+{
+    match registry.register(alloc, pass, octets) {
+        Ok(Kept::Known(finding)) => finding.octets() == octets,
+        _ => false,
+    }
+}
+
+/// Whether one object is added and then known, and another one clashes with it.
+fn keeps_the_first(registry: &Registry<Alike>, alloc: Global) -> bool {
+    let mut pass = registry.pass(alloc);
+    adds(registry, alloc, &mut pass, &COLOR)
+        && knows(registry, alloc, &mut pass, &COLOR)
+        && clashes(registry, alloc, &mut pass, &object(7), &COLOR)
+}
+
+/// Whether an object clashes with the first one under a pass that knew nothing.
+fn clashes_anew(registry: &Registry<Alike>, alloc: Global, octets: &[u8], first: &[u8]) -> bool {
+    let mut pass = registry.pass(alloc);
+    clashes(registry, alloc, &mut pass, octets, first)
+}
+
 #[test]
 fn equal_names_clash_with_the_first_object(rt: HostRuntime) {
     let registry: Registry<Alike> = Registry::new(rt.alloc());
-    let mut pass = registry.pass(rt.alloc());
-    assert!(rt; adds(&registry, rt.alloc(), &mut pass, &COLOR));
-    match registry.register(rt.alloc(), &mut pass, &COLOR) {
-        Ok(Kept::Known(finding)) => assert!(rt; finding.octets() == &COLOR[..]),
-        _ => panic!(rt; "not known"),
-    }
-    assert!(rt; clashes(&registry, rt.alloc(), &mut pass, &object(7), &COLOR));
-    let mut other = registry.pass(rt.alloc());
-    assert!(rt; clashes(&registry, rt.alloc(), &mut other, &object(7), &COLOR));
+    assert!(rt; keeps_the_first(&registry, rt.alloc()));
+    assert!(rt; clashes_anew(&registry, rt.alloc(), &object(7), &COLOR));
 }
 
 /// Adds 64 objects, which have the same probed cells.
@@ -91,12 +113,17 @@ fn is_full<'r>(
     }
 }
 
+/// Whether 64 objects are added, and then no cell is left for another one.
+fn has_room_for_64(registry: &Registry<LastSix>, alloc: Global) -> bool {
+    let mut pass = registry.pass(alloc);
+    fills(registry, alloc, &mut pass)
+        && is_full(registry, alloc, &mut pass, &object(64), &object(63))
+}
+
 #[test]
 fn sixty_four_strangers_fill_the_probed_cells(rt: HostRuntime) {
     let registry: Registry<LastSix> = Registry::new(rt.alloc());
-    let mut pass = registry.pass(rt.alloc());
-    assert!(rt; fills(&registry, rt.alloc(), &mut pass));
-    assert!(rt; is_full(&registry, rt.alloc(), &mut pass, &object(64), &object(63)));
+    assert!(rt; has_room_for_64(&registry, rt.alloc()));
     assert!(rt; is_found(&registry, rt.alloc(), &object(63)));
     assert!(rt; !is_found(&registry, rt.alloc(), &object(64)));
 }
@@ -133,32 +160,82 @@ fn finds<'r, N: Naming>(
     }
 }
 
+/// Whether a pass that knew nothing finds what another one found, before and after it remembers it.
+fn finds_anew<'r>(
+    registry: &'r Registry<Md5Naming>,
+    alloc: Global,
+    found: &Finding<'r, Md5Naming>,
+) -> bool
+    requires { found.now.registry ≡ registry.now }
+{
+    let mut pass = registry.pass(alloc);
+    finds(registry, &pass, found)
+        && registry.remember(&mut pass, found).is_ok()
+        && finds(registry, &pass, found)
+}
+
+/// Whether a finding is of that object.
+fn is_of(found: &Finding<'_, Md5Naming>, octets: &[u8]) -> bool {
+    found.octets() == octets && found.id() == id_of::<Md5Naming>(octets)
+}
+
+/// Whether an object that is registered is found as it is by another pass.
+fn is_shared(registry: &Registry<Md5Naming>, alloc: Global) -> bool {
+    let mut pass = registry.pass(alloc);
+    match finding_of(registry, alloc, &mut pass, &COLOR) {
+        Ok(found) => is_of(&found, &COLOR) && finds_anew(registry, alloc, &found),
+        Err(_) => false,
+    }
+}
+
 #[test]
 fn another_pass_finds_what_the_first_registered(rt: HostRuntime) {
     let registry: Registry<Md5Naming> = Registry::new(rt.alloc());
-    let mut first = registry.pass(rt.alloc());
-    let mut second = registry.pass(rt.alloc());
-    let found = finding_of(&registry, rt.alloc(), &mut first, &COLOR).expect(&rt, "memory");
-    assert!(rt; found.octets() == &COLOR[..] && found.id() == id_of::<Md5Naming>(&COLOR));
-    assert!(rt; finds(&registry, &second, &found));
-    assert!(rt; registry.remember(&mut second, &found).is_ok());
-    assert!(rt; finds(&registry, &second, &found));
+    assert!(rt; is_shared(&registry, rt.alloc()));
+}
+
+/// Whether a pass finds nothing under the identifier of these octets.
+fn finds_nothing<'r>(
+    registry: &'r Registry<Md5Naming>,
+    pass: &Pass<'r, Md5Naming>,
+    octets: &[u8],
+) -> bool
+    requires { pass.now.registry ≡ registry.now }
+{
+    registry.find(pass, &id_of::<Md5Naming>(octets)).is_none()
+}
+
+/// Whether a text is refused since it ends too early, at this place.
+fn is_short<'r>(
+    registry: &'r Registry<Md5Naming>,
+    alloc: Global,
+    pass: &mut Pass<'r, Md5Naming>,
+    octets: &[u8],
+    at: u32,
+) -> bool
+    requires { pass.old.registry ≡ registry.now }
+    ensures { pass.new.registry ≡ registry.now }
+{
+    match registry.register(alloc, pass, octets) {
+        Err(RegisterFault::NotAnObject(fault)) => {
+            fault.at == at && fault.rule == ObjectRule::Short
+        }
+        _ => false,
+    }
+}
+
+/// Whether a text that ends too early is refused, and is found neither by the pass that handed it in nor by another.
+fn is_not_kept(registry: &Registry<Md5Naming>, alloc: Global, octets: &[u8], at: u32) -> bool {
+    let mut pass = registry.pass(alloc);
+    is_short(registry, alloc, &mut pass, octets, at)
+        && finds_nothing(registry, &pass, octets)
+        && !is_found(registry, alloc, octets)
 }
 
 #[test]
 fn a_text_that_is_cut_is_no_object(rt: HostRuntime) {
     let registry: Registry<Md5Naming> = Registry::new(rt.alloc());
-    let mut pass = registry.pass(rt.alloc());
-    let whole = COLOR;
-    let cut = &whole[..38];
-    match registry.register(rt.alloc(), &mut pass, cut) {
-        Err(RegisterFault::NotAnObject(fault)) => {
-            assert!(rt; fault.at == 35 && fault.rule == ObjectRule::Short);
-        }
-        _ => panic!(rt; "taken for an object"),
-    }
-    assert!(rt; registry.find(&pass, &id_of::<Md5Naming>(cut)).is_none());
-    assert!(rt; !is_found(&registry, rt.alloc(), cut));
+    assert!(rt; is_not_kept(&registry, rt.alloc(), &COLOR[..38], 35));
 }
 
 // How many objects each of two threads registers.
@@ -182,13 +259,20 @@ fn register_all<'r, N: Naming>(
     Ok(found)
 }
 
-/// Whether a pass that knew nothing finds the object.
-pub(crate) fn is_found<N: Naming>(registry: &Registry<N>, alloc: Global, octets: &[u8]) -> bool {
-    let pass = registry.pass(alloc);
-    match registry.find(&pass, &id_of::<N>(octets)) {
+/// Whether a pass finds the object.
+fn finds_octets<'r, N: Naming>(registry: &'r Registry<N>, pass: &Pass<'r, N>, octets: &[u8]) -> bool
+    requires { pass.now.registry ≡ registry.now }
+{
+    match registry.find(pass, &id_of::<N>(octets)) {
         Some(finding) => finding.octets() == octets,
         None => false,
     }
+}
+
+/// Whether a pass that knew nothing finds the object.
+pub(crate) fn is_found<N: Naming>(registry: &Registry<N>, alloc: Global, octets: &[u8]) -> bool {
+    let pass = registry.pass(alloc);
+    finds_octets(registry, &pass, octets)
 }
 
 #[test]
@@ -220,11 +304,16 @@ fn threads_agree_on_each_object(rt: HostRuntime) {
 
 fn expect_send<T: Send>(_value: &T) {}
 
+/// Whether a pass that could go to another thread, and knows nothing, finds nothing.
+fn is_empty(registry: &Registry<Md5Naming>, alloc: Global) -> bool {
+    let pass = registry.pass(alloc);
+    pass.holds();
+    expect_send(&pass);
+    finds_nothing(registry, &pass, &COLOR)
+}
+
 #[test]
 fn a_pass_may_go_to_another_thread(rt: HostRuntime) {
     let registry: Registry<Md5Naming> = Registry::new(rt.alloc());
-    let pass = registry.pass(rt.alloc());
-    pass.holds();
-    expect_send(&pass);
-    assert!(rt; registry.find(&pass, &id_of::<Md5Naming>(&COLOR)).is_none());
+    assert!(rt; is_empty(&registry, rt.alloc()));
 }
