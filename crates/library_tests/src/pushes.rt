@@ -61,14 +61,19 @@ pub(crate) fn tells(
     }
 }
 
+// A pool of two objects.
+fn pool_of(alloc: Global, first: &[u8], second: &[u8]) -> Option<Box<Pool>> {
+    let mut pool = Box::new(alloc, Pool::new(alloc)).ok()?;
+    pool.add(first).ok()?;
+    pool.add(second).ok()?;
+    Some(pool)
+}
+
 // Two objects that may be pushed together, where both texts are objects'.
 fn both(alloc: Global, first: &[u8], second: &[u8]) -> Option<Row<Fetched>>
     ensures { IfSome result (MayPush ⟦<Md5Naming as Naming>⟧.name) }
 {
-    let mut pool = Pool::new(alloc);
-    if pool.add(first).is_err() || pool.add(second).is_err() {
-        return None;
-    }
+    let pool = pool_of(alloc, first, second)?;
     match objects_of(alloc, &pool) {
         Ok(objects) => Some(objects),
         Err(_) => None,

@@ -172,13 +172,18 @@ fn fault_of(alloc: Global, ty: &XType) -> Made<String> {
     }
 }
 
+/// Whether this is said of a type.
+fn is_judged(alloc: Global, ty: &XType, want: &str) -> bool {
+    match fault_of(alloc, ty) {
+        Ok(told) => told.as_str() == want,
+        Err(_) => false,
+    }
+}
+
 /// Whether this is said of a type that was made.
 fn says(alloc: Global, made: Made<XType>, want: &str) -> bool {
-    let Ok(ty) = made else {
-        return false;
-    };
-    match fault_of(alloc, &ty) {
-        Ok(told) => told.as_str() == want,
+    match made {
+        Ok(ty) => is_judged(alloc, &ty, want),
         Err(_) => false,
     }
 }
@@ -204,19 +209,33 @@ fn has(ty: &XType, number: i128) -> bool {
     has_type(ty, &Value::Int(number))
 }
 
+/// Whether the type has the numbers of 64 bits, and none above them.
+fn has_64_bits(ty: &XType) -> bool {
+    has(ty, 18_446_744_073_709_551_615) && !has(ty, 18_446_744_073_709_551_616)
+}
+
+/// Whether a text with an octet 0 is a value of a string type.
+fn is_text_with_nul(alloc: Global) -> Made<bool> {
+    let text = Text::from_octets(alloc, b"a\0c")?;
+    Ok(has_type(&XType::Str(3), &Value::Str(text)))
+}
+
+/// The weight of an array of no elements.
+fn weight_of_none(alloc: Global) -> Made<u64> {
+    Ok(capped_weight(&array_of_none(alloc)?))
+}
+
+/// Whether a bitmask of 64 bits has the numbers of 64 bits.
+fn has_wide_masks(alloc: Global) -> Made<bool> {
+    Ok(has_64_bits(&bitmask(alloc)?))
+}
+
 #[test]
-fn values_that_no_text_means(rt: HostRuntime) -> Result<(), Fail> {
-    let alloc = rt.alloc();
-    let text = Value::Str(Text::from_octets(alloc, b"a\0c")?);
-    assert!(rt; !has_type(&XType::Str(3), &text));
-    let double = XType::Prim(Prim::Float64);
-    assert!(rt;
-        has(&double, 18_446_744_073_709_551_615) && !has(&double, 18_446_744_073_709_551_616)
-    );
-    let mask = bitmask(alloc)?;
-    assert!(rt; has(&mask, 18_446_744_073_709_551_615) && !has(&mask, 18_446_744_073_709_551_616));
-    assert!(rt; capped_weight(&array_of_none(alloc)?) == 1);
-    Ok(())
+fn values_that_no_text_means(rt: HostRuntime) {
+    assert!(rt; is_text_with_nul(rt.alloc()) == Ok(false));
+    assert!(rt; has_64_bits(&XType::Prim(Prim::Float64)));
+    assert!(rt; has_wide_masks(rt.alloc()) == Ok(true));
+    assert!(rt; weight_of_none(rt.alloc()) == Ok(1));
 }
 
 /// What a JSON text means for the type, written again, or the reason why it means nothing.
