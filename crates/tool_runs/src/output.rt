@@ -9,6 +9,7 @@ mod status;
 mod stop;
 mod turns;
 
+pub use block::Block;
 pub use ending::{Cause, Ending, Style};
 pub use halt::Halt;
 pub use payloads::Payloads;

@@ -8,9 +8,9 @@ use crate::payloads::plan_for;
 use crate::sampling::sample_piece;
 use packed_json::Plan;
 use std::alloc::Global;
-use tool_runs::output::{Stop, Turns, is_sample, say};
+use tool_runs::output::{Block, Stop, Turns, is_sample};
 use type_trees::XType;
-use xt_io::{BundleReader, Head, Kind, Sink, Source};
+use xt_io::{BundleReader, Head, Kind, Source};
 use xt_shapes::Rep;
 
 /// A piece for each sample, by its representation and the reader's type, in the form that is asked.
@@ -73,20 +73,20 @@ impl<F: Shows + Drop> Turns for Samples<F> {
         is_sample(kind)
     }
 
-    fn turn<S: Source, K: Sink>(
+    fn turn<S: Source>(
         &mut self,
         alloc: Global,
         _number: u32,
         head: Head,
         reader: BundleReader<S>,
-        sink: &mut K,
+        block: &mut Block,
     ) -> (BundleReader<S>, Result<(), Stop>) {
         let (back, shown) = sample_piece(
             alloc, &self.form, self.rep, &self.ty, &self.plan, head, reader,
         );
         match shown {
             Err(stop) => (back, Err(stop)),
-            Ok(piece) => match say(sink, piece.octets()) {
+            Ok(piece) => match block.put(piece) {
                 Ok(()) => (back, Ok(())),
                 Err(halt) => (back, Err(Stop::Halted(halt))),
             },

@@ -1,5 +1,5 @@
 -- What a block holds, and what handing it on does to the sink (this profile's own).
-use Rattle.std.specs.Prelude.{◌≡◌, ℕ, ◌≤◌, List, [], ◌⊎◌, Option, Result, Err, IsErrOf}
+use Rattle.std.specs.Prelude.{◌≡◌, ℕ, ◌≤◌, List, [], ◌++◌, ◌⊎◌, Option, Result, Err, IsErrOf}
 use Rattle.std.specs.Io.KnownBytes.{Keeps, Appends, append_known}
 use Rattle.xt_io.specs.Outside.{Rose, AppendsPrefix}
 use Rattle.tool_runs.specs.declared.output.block.Block.{Block}
@@ -10,10 +10,11 @@ use Rattle.tool_runs.specs.declared.output.stop.Stop.{Stop}
 use Rattle.tool_runs.specs.declared.output.stop.Stop.TheVariants as stops
 use Rattle.tool_runs.specs.output.Outputs.{Output}
 use Rattle.tool_runs.specs.output.Runs.{Steps, at_number}
+use Rattle.tool_runs.specs.output.Texts.{octets_of}
 
 -- the octets that it holds
 abbrev pub held : Block → List ℕ
-held block = block.held.items
+held block = block.front.items ++ octets_of block.large
 
 -- how often memory was wanting for what it was to hold
 abbrev pub wanting : Block → ℕ

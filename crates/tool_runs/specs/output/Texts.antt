@@ -1,5 +1,5 @@
--- The words of last lines that the bundle itself gives (this profile's own).
-use Rattle.std.specs.Prelude.{ℕ, List, [], ◌∷◌, ◌++◌, codes}
+-- The words of last lines that the bundle itself gives, and texts that there may be (this profile's own).
+use Rattle.std.specs.Prelude.{ℕ, List, [], ◌∷◌, ◌++◌, Option, Some, None, codes}
 use Rattle.std.specs.Fmt.{decimal}
 use Rattle.xt_io.specs.declared.RecordFault.{RecordFault}
 use Rattle.xt_io.specs.declared.RecordFault.TheVariants as record_fault
@@ -15,3 +15,8 @@ record_fault_text (record_fault.TooLong at kind n) = bundle_text at (codes "too-
 record_fault_text (record_fault.TooMany at) = bundle_text at (codes "records")
 record_fault_text record_fault.ReadFault = []
 record_fault_text record_fault.OutOfMemory = []
+
+-- the octets of a text, or none
+abbrev pub octets_of : Option (List ℕ) → List ℕ
+octets_of None = []
+octets_of (Some text) = text

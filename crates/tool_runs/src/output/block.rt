@@ -1,14 +1,17 @@
 // What was written of a body and is still to be handed on.
-ghost use Rattle.std.specs.Prelude.{◌≡◌, [], false, nat_le, length, IfOk, OnOk, OnErr};
-ghost use Rattle.std.specs.Io.KnownBytes.{Keeps};
+ghost use Rattle.std.specs.Prelude.{◌≡◌, ◌++◌, [], false, nat_le, length, IfOk, OnOk, OnErr, Some};
+ghost use Rattle.std.specs.Io.KnownBytes.{Appends, Keeps};
 ghost use Rattle.xt_io.specs.Outside.{AppendsAll, AppendsPrefix, HasCause};
 ghost use Rattle.tool_runs.specs.output.Blocks.{held, wanting, reached, Finishes, KeepsAnswer};
+ghost use Rattle.tool_runs.specs.output.Runs.{HaltsWriting};
+ghost use Rattle.tool_runs.specs.output.Texts.{octets_of};
 
 use crate::output::halt::Halt;
+use crate::output::saying::say;
 use crate::output::stop::Stop;
 use std::alloc::Global;
 use xt_io::{Failed, Sink, write_whole};
-use xt_lists::OutOfMemory;
+use xt_lists::{OutOfMemory, Text};
 
 // A block is handed on once it holds so many octets.
 const BLOCK: usize = 65_536;
@@ -16,8 +19,31 @@ const BLOCK: usize = 65_536;
 /// A sink in memory. It holds what it takes until that is handed on to another sink, and fails only where memory is wanting.
 #[derive(Debug, Drop)]
 pub struct Block {
-    held: Vec<u8>,
+    front: Vec<u8>,
+    // a large text that stands behind the front as it was given
+    large: Option<Text>,
     wanting: u64,
+}
+
+// The octets of a text, or none.
+fn octets_in(large: &Option<Text>) -> &[u8]
+    ensures { result.now ≡ octets_of large.now }
+{
+    match large {
+        Some(text) => text.octets(),
+        None => &[],
+    }
+}
+
+// Writes octets, and others behind them.
+fn write_both<K: Sink>(sink: &mut K, front: &[u8], behind: &[u8]) -> Result<(), Failed>
+    ensures whole { OnOk result (AppendsAll (K.taken sink.old) (K.taken sink.new) (front.now ++ behind.now)) }
+    ensures prefix { OnErr result (AppendsPrefix (K.taken sink.old) (K.taken sink.new) (front.now ++ behind.now)) }
+    ensures same { K.name sink.new ≡ K.name sink.old }
+    ensures cause { HasCause (K.faults sink.old) (K.faults sink.new) result }
+{
+    write_whole(sink, front)?;
+    write_whole(sink, behind)
 }
 
 impl Block {
@@ -25,15 +51,47 @@ impl Block {
     pub fn new(alloc: Global) -> Result<Block, OutOfMemory>
         ensures { IfOk result (λ block. held block ≡ []) }
     {
-        let held = Vec::with_capacity(alloc, BLOCK)?;
-        Ok(Block { held, wanting: 0 })
+        let front = Vec::with_capacity(alloc, BLOCK)?;
+        Ok(Block {
+            front,
+            large: None,
+            wanting: 0,
+        })
     }
 
     /// Whether it holds 65,536 octets or more.
     pub fn is_full(&self) -> bool
         ensures { result ≡ nat_le 65536 (length (held self.now)) }
     {
-        self.held.len() >= BLOCK
+        self.front
+            .len()
+            .saturating_add(octets_in(&self.large).len())
+            >= BLOCK
+    }
+
+    // Takes octets behind those that it holds.
+    fn append(&mut self, from: &[u8]) -> Result<(), OutOfMemory>
+        ensures ok { OnOk result (held self.new ≡ held self.old ++ from.now) }
+        ensures err { OnErr result (held self.new ≡ held self.old) }
+        ensures wanting { wanting self.new ≡ wanting self.old }
+    {
+        match &mut self.large {
+            Some(text) => text.append(from),
+            None => Ok(self.front.extend_from_slice(from)?),
+        }
+    }
+
+    /// Takes a text. The octets of a large one aren't copied, where no other large one waits.
+    pub fn put(&mut self, text: Text) -> Result<(), Halt>
+        ensures text { OnOk result (Appends (Some (held self.old)) (Some (held self.new)) text) }
+        ensures prefix { OnErr result (AppendsPrefix (Some (held self.old)) (Some (held self.new)) text) }
+        ensures halts { HaltsWriting (wanting self.old) (wanting self.new) result }
+    {
+        if text.len() < BLOCK || self.large.is_some() {
+            return say(self, text.octets());
+        }
+        self.large = Some(text);
+        Ok(())
     }
 
     /// Hands on all that it holds in as few writes as the sink wants: none, where it holds nothing. Afterwards it holds nothing, also where the
@@ -46,8 +104,9 @@ impl Block {
         ensures same { K.name sink.new ≡ K.name sink.old }
         ensures cause { HasCause (K.faults sink.old) (K.faults sink.new) result }
     {
-        let written = write_whole(sink, self.held.as_slice());
-        self.held.clear();
+        let written = write_both(sink, self.front.as_slice(), octets_in(&self.large));
+        self.front.clear();
+        self.large = None;
         written
     }
 
@@ -66,14 +125,15 @@ impl Block {
 }
 
 impl Sink for Block {
-    ghost use Rattle.std.specs.Prelude.{Some};
+    ghost use Rattle.std.specs.Prelude.{◌++◌, Some};
+    ghost use Rattle.tool_runs.specs.output.Texts.{octets_of};
 
-    ghost taken = { λ block. Some block.held.items };
+    ghost taken = { λ block. Some (block.front.items ++ octets_of block.large) };
 
     ghost faults = { λ block. block.wanting };
 
     fn write(&mut self, from: &[u8]) -> Result<usize, Failed> {
-        match self.held.extend_from_slice(from) {
+        match self.append(from) {
             Ok(()) => Ok(from.len()),
             Err(_) => {
                 self.wanting = self.wanting.saturating_add(1);

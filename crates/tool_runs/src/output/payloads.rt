@@ -1,5 +1,6 @@
 ghost use Rattle.std.specs.Prelude.{◌≡◌, ◌≤◌, ◌+◌, Some, length};
 
+use crate::output::block::Block;
 use crate::output::stop::Stop;
 use crate::output::turns::{Turns, payload_of};
 use std::alloc::Global;
@@ -63,19 +64,19 @@ impl<T: Payloads> Turns for T {
         <T as Payloads>::takes(kind)
     }
 
-    fn turn<S: Source, K: Sink>(
+    fn turn<S: Source>(
         &mut self,
         alloc: Global,
         number: u32,
         head: Head,
         reader: BundleReader<S>,
-        sink: &mut K,
+        block: &mut Block,
     ) -> (BundleReader<S>, Result<(), Stop>) {
         let mut reader = reader;
         match payload_of(alloc, head, &mut reader) {
             Err(stop) => (reader, Err(stop)),
             Ok(payload) => {
-                let taken = self.take(alloc, number, head, payload, sink);
+                let taken = self.take(alloc, number, head, payload, block);
                 (reader, taken)
             }
         }

@@ -144,7 +144,7 @@ pub fn pass_other<S: Source>(
 
 /// What a command makes of the records of a body: a turn for each.
 pub trait Turns {
-    ghost use Rattle.std.specs.Prelude.{◌≡◌, ℕ, ◌+◌, Bool, true, false, OnOk};
+    ghost use Rattle.std.specs.Prelude.{◌≡◌, ℕ, ◌+◌, Bool, true, false, Some, OnOk};
     ghost use Rattle.std.specs.Option.{option_map};
     ghost use Rattle.xt_io.specs.Bundles.{Bundle, only_fault, before_bundle};
     ghost use Rattle.xt_io.specs.declared.Item.{Item};
@@ -153,6 +153,7 @@ pub trait Turns {
     ghost use Rattle.tool_runs.specs.declared.output.ending.Style.{Style};
     ghost use Rattle.tool_runs.specs.declared.output.turns.Next.TheVariants.{Record};
     ghost use Rattle.tool_runs.specs.output.Outputs.{Output, broken, refused, other_output};
+    ghost use Rattle.tool_runs.specs.output.Blocks.{held, wanting};
     ghost use Rattle.tool_runs.specs.output.Runs.{coming, IsReady, GoesOn, Steps, Stops};
 
     /// Whether lines or records are written.
@@ -168,22 +169,22 @@ pub trait Turns {
     fn takes(kind: Kind) -> bool
         ensures { result ≡ kinds kind };
 
-    /// Takes the record of this number, whose head the reader just gave, and gives the reader back. A refusal is not written yet.
-    fn turn<S: Source, K: Sink>(
+    /// Takes the record of this number, whose head the reader just gave, and gives the reader back. What it comes to goes into the block. A
+    /// refusal is not written yet.
+    fn turn<S: Source>(
         &mut self,
         alloc: Global,
         number: u32,
         head: Head,
         reader: BundleReader<S>,
-        sink: &mut K,
+        block: &mut Block,
     ) -> (BundleReader<S>, Result<(), Stop>)
         requires ready { IsReady head reader }
         requires taken { kinds head.kind ≡ true }
-        ensures steps { Steps style (option_map (to_write self.old number) (coming (Record head) reader)) (option_map (to_write self.new (number + 1)) result.0.ahead) result.1 (K.taken sink.old) (K.taken sink.new) }
+        ensures steps { Steps style (option_map (to_write self.old number) (coming (Record head) reader)) (option_map (to_write self.new (number + 1)) result.0.ahead) result.1 (Some (held block.old)) (Some (held block.new)) }
         ensures on { OnOk result.1 (GoesOn reader result.0) }
-        ensures stops { Stops reader.faults result.0.faults (K.faults sink.old) (K.faults sink.new) result.1 }
-        ensures same_source { result.0.name ≡ reader.name }
-        ensures same_sink { K.name sink.new ≡ K.name sink.old };
+        ensures stops { Stops reader.faults result.0.faults (wanting block.old) (wanting block.new) result.1 }
+        ensures same { result.0.name ≡ reader.name };
 
     /// A fault in a record's place ends the command.
     ghost at_fault: { (s : Self) (k : ℕ) (fault : RecordFault) → to_write s k (only_fault fault) ≡ refused style (broken fault) };
@@ -193,23 +194,22 @@ pub trait Turns {
 }
 
 // One turn.
-fn one_turn<T: Turns, S: Source, K: Sink>(
+fn one_turn<T: Turns, S: Source>(
     alloc: Global,
     turns: &mut T,
     number: u32,
     head: Head,
     reader: BundleReader<S>,
-    sink: &mut K,
+    block: &mut Block,
 ) -> (BundleReader<S>, Result<(), Stop>)
     requires { IsReady head reader }
-    ensures steps { Steps T.style (option_map (T.to_write turns.old number) (coming (Record head) reader)) (option_map (T.to_write turns.new (number + 1)) result.0.ahead) result.1 (K.taken sink.old) (K.taken sink.new) }
+    ensures steps { Steps T.style (option_map (T.to_write turns.old number) (coming (Record head) reader)) (option_map (T.to_write turns.new (number + 1)) result.0.ahead) result.1 (Some (blocks.held block.old)) (Some (blocks.held block.new)) }
     ensures on { OnOk result.1 (GoesOn reader result.0) }
-    ensures stops { Stops reader.faults result.0.faults (K.faults sink.old) (K.faults sink.new) result.1 }
-    ensures same_source { result.0.name ≡ reader.name }
-    ensures same_sink { K.name sink.new ≡ K.name sink.old }
+    ensures stops { Stops reader.faults result.0.faults (blocks.wanting block.old) (blocks.wanting block.new) result.1 }
+    ensures same { result.0.name ≡ reader.name }
 {
     if T::takes(head.kind) {
-        turns.turn(alloc, number, head, reader, sink)
+        turns.turn(alloc, number, head, reader, block)
     } else {
         pass_other(alloc, head, reader)
     }
