@@ -6,14 +6,20 @@ ghost use Rattle.type_rules.specs.Valid.{type_fault};
 use crate::answers::Answer;
 use crate::cases::Case;
 use crate::trouble::Trouble;
-use dynamic_data::{from_json, read_taped, to_json};
+use dynamic_data::{from_json, to_json};
 use json::Scratch;
+use packed_json::read_taped;
+use packed_writer::write_plain;
+use settled_parts::Outcome;
 use std::alloc::Global;
 use type_rules::check_type;
 use type_trees::{Named, Pair, Slot, Value, XType};
 use type_values::copy_value;
+use xcdr_samples::read_sample2;
 use xt_idl::parse;
 use xt_lists::{Row, Text};
+use xt_shapes::Rep;
+use xt_wire::cursor::SliceCursor;
 
 /// The most octets that `parse` takes.
 const MOST_TEXT: usize = 1_048_576;
@@ -57,12 +63,21 @@ pub fn value_of(alloc: Global, ty: &XType, json: &str) -> Result<Box<Value>, Tro
     Ok(Box::new(alloc, from_json(alloc, ty, json.as_bytes())?)?)
 }
 
-/// The value that a tape of the JSON's tokens gives for the type, if it gives one.
-pub fn taped_value(alloc: Global, ty: &XType, json: &str) -> Option<Value>
+/// The value that a tape of the JSON's tokens gives for the type, if it gives one. It comes packed, and is read from the sample that it makes.
+pub fn taped_value(alloc: Global, ty: &XType, json: &str) -> Option<Box<Value>>
     requires { type_fault (tree ty.now) ≡ None }
 {
     let mut scratch = Scratch::new(alloc);
-    read_taped(alloc, ty, json.as_bytes(), &mut scratch)
+    let packed = read_taped(alloc, ty, json.as_bytes(), &mut scratch)?;
+    let sample = write_plain(Rep::Xcdr2, ty, &packed, Vec::new(alloc))?;
+    let mut cursor = SliceCursor::new(sample.as_slice());
+    match read_sample2(alloc, ty, &mut cursor) {
+        Ok(Outcome::Sample(value)) => match Box::new(alloc, value) {
+            Ok(value) => Some(value),
+            Err(_) => None,
+        },
+        _ => None,
+    }
 }
 
 /// The value of a case, of the writer's type where there is one.

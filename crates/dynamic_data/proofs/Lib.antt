@@ -1,14 +1,13 @@
-mod BackLeaves
+pub mod BackLeaves
 mod BackRows
-mod BackMembers
+pub mod BackMembers
 mod Back
 mod NamesFit
 mod NameTexts
-mod NamesApart
+pub mod NamesApart
 mod Results
-mod Yields
-mod TypedLeaves
-mod Typed
+pub mod Yields
+pub mod TypedLeaves
+pub mod Typed
 mod Reaching
 pub mod OfNumbers
-pub mod OfTapes

@@ -2,5 +2,4 @@ pub mod Reach
 pub mod Laws
 pub mod Worked
 pub mod Faithful
-pub mod Tapes
 pub mod numbers

@@ -13,5 +13,5 @@ mod walk;
 
 pub use kinds::has_floats;
 pub use laws::{bits_are_read, numbers_come_back, plain_is_read, plain_is_shown};
-pub(crate) use members::place_among;
+pub use members::place_among;
 pub use texts::{from_numbers, with_numbers};

@@ -6,3 +6,4 @@ pub mod Orders
 pub mod Structures
 pub mod ListLaws
 pub mod Numbered
+pub mod OfTapes

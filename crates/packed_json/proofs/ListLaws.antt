@@ -6,13 +6,11 @@ use Rattle.std.proofs.Math.Bool.{or-false}
 use Rattle.std.specs.Ordering.{int_eq}
 use Rattle.json.specs.Print.{quoted}
 use Rattle.serde_json.specs.Written.{compact_text, items_text}
-use Rattle.xt_shapes.specs.Vals.{int, text, listed, mapped, struct_of, union_of, Vals, no_vals, one_val, absent, slots_of}
+use Rattle.xt_shapes.specs.Vals.{int, text, listed, mapped, struct_of, union_of, Vals, no_vals, one_val, Slot, absent, slots_of}
 use Rattle.type_trees.specs.declared.types.Literal.{Literal}
 use Rattle.type_trees.specs.Trees.{Tree}
 use Rattle.json_values.specs.Names.{name_text}
 use Rattle.json_values.specs.Written.{data_of, vals_data, literal_data}
-use Rattle.packed_reader.specs.declared.values.PackedSlot.{PackedSlot}
-use Rattle.packed_reader.specs.View.{packed_slot}
 use Rattle.packed_json.specs.declared.plan.Named.{Named}
 use Rattle.packed_json.specs.Plans.{Meaning, IsPlanOf, IsListPlanOf, PlansLiterals, list_meaning, vals_text, vals_fit, named_text, has_name, slot_at}
 
@@ -102,12 +100,12 @@ list_planned t m is (union_of d b) fits = absurd cc
 
 -- ---- slots
 
-pub slot_there : (ss : List PackedSlot) (at : ℕ) (s : PackedSlot) → at < length ss → s ≡ get_or ss at s → slot_at (slots_of (map packed_slot ss)) at ≡ packed_slot s
-slot_there [] at s within is = absurd (omega arith)
-slot_there (x ∷ ss) zero s within is = ap packed_slot (sym is)
-slot_there (x ∷ ss) (suc at) s within is = slot_there ss at s (omega arith) is
+pub slot_there : {S : Type 0} (f : S → Slot) (ss : List S) (at : ℕ) (s : S) → at < length ss → s ≡ get_or ss at s → slot_at (slots_of (map f ss)) at ≡ f s
+slot_there f [] at s within is = absurd (omega arith)
+slot_there f (x ∷ ss) zero s within is = ap f (sym is)
+slot_there f (x ∷ ss) (suc at) s within is = slot_there f ss at s (omega arith) is
 
-pub slot_past : (ss : List PackedSlot) (at : ℕ) → length ss ≤ at → slot_at (slots_of (map packed_slot ss)) at ≡ absent
-slot_past [] at past = refl
-slot_past (x ∷ ss) zero past = absurd (omega arith)
-slot_past (x ∷ ss) (suc at) past = slot_past ss at (omega arith)
+pub slot_past : {S : Type 0} (f : S → Slot) (ss : List S) (at : ℕ) → length ss ≤ at → slot_at (slots_of (map f ss)) at ≡ absent
+slot_past f [] at past = refl
+slot_past f (x ∷ ss) zero past = absurd (omega arith)
+slot_past f (x ∷ ss) (suc at) past = slot_past f ss at (omega arith)

@@ -41,7 +41,7 @@ fn write_literal(named: &[Named], number: i128, out: &mut Text) -> Option<()>
     None
 }
 
-fn write_text(octets: &[u8], out: &mut Text) -> Option<()>
+pub(crate) fn write_text(octets: &[u8], out: &mut Text) -> Option<()>
     ensures { IfSome result (λ u. Writes (leaf_meaning octets_data) (text octets.now) out.old out.new) }
 {
     put_text(octets, out)
@@ -49,7 +49,7 @@ fn write_text(octets: &[u8], out: &mut Text) -> Option<()>
 
 // An integer of a type that has them.
 #[tactic(auto, using(crate::proofs::Meanings::plan_rules))]
-fn write_integer(plan: &Plan, number: i128, out: &mut Text) -> Option<()>
+pub(crate) fn write_integer(plan: &Plan, number: i128, out: &mut Text) -> Option<()>
     ensures { IfSome result (λ u. Writes (meaning plan.now) (int number) out.old out.new) }
 {
     match plan {
@@ -111,7 +111,7 @@ fn value_at<'s, 'o>(slots: &'s [PackedSlot<'o>], at: usize) -> Option<&'s Packed
 }
 
 // What stands before a member's value, behind others or none.
-fn put_key(is_later: bool, key: &[u8], out: &mut Text) -> Option<()>
+pub(crate) fn put_key(is_later: bool, key: &[u8], out: &mut Text) -> Option<()>
     ensures { IfSome result (λ u. out.new ≡ out.old ++ key_behind is_later key.now) }
 {
     if is_later {
@@ -188,6 +188,7 @@ pub fn write_value(plan: &Plan, value: &Packed<'_>, out: &mut Text) -> Option<()
         (plan, Packed::Whole(number)) => write_integer(plan, i128::from(*number), out),
         (Plan::Text, Packed::Text(octets)) => write_text(octets, out),
         (Plan::List(item), Packed::Numbers(numbers)) => write_packed_list(item, numbers, out),
+        (Plan::List(item), Packed::Own(own)) => write_packed_list(item, &own.lent(), out),
         (Plan::List(item), Packed::List(values)) => write_list(item, values.as_slice(), out),
         (Plan::Struct(members), Packed::Struct(slots)) => {
             write_structure(members.as_slice(), slots.as_slice(), out)

@@ -2,11 +2,12 @@
 use Rattle.std.proofs.Common.{◌≡◌, ℕ, ℤ, pos, List, map, rules, Bor}
 use Rattle.xt_shapes.specs.Vals.{int, text, listed, struct_of, vals_of, slots_of, absent, present}
 use Rattle.packed_reader.specs.declared.values.Numbers.{Numbers}
+use Rattle.packed_reader.specs.declared.values.OwnNumbers.{OwnNumbers}
 use Rattle.packed_reader.specs.declared.values.Packed as p
 use Rattle.packed_reader.specs.declared.values.Packed.{Packed, the_lemmas}
 use Rattle.packed_reader.specs.declared.values.PackedSlot as s
 use Rattle.packed_reader.specs.declared.values.PackedSlot.{PackedSlot}
-use Rattle.packed_reader.specs.View.{packed_val, packed_slot, numbers_of}
+use Rattle.packed_reader.specs.View.{packed_val, packed_slot, numbers_of, own_numbers}
 
 pub packed_natural : (n : ℕ) → packed_val (p.Natural n) ≡ int (pos n)
 packed_natural n = search (rules, the_lemmas)
@@ -20,6 +21,9 @@ packed_text t = search (rules, the_lemmas)
 pub packed_numbers : (x : Numbers) → packed_val (p.Numbers x) ≡ listed (vals_of (numbers_of x))
 packed_numbers x = search (rules, the_lemmas)
 
+pub packed_own : (x : OwnNumbers) → packed_val (p.Own x) ≡ listed (vals_of (own_numbers x))
+packed_own x = search (rules, the_lemmas)
+
 pub packed_list : (vs : List Packed) → packed_val (p.List vs) ≡ listed (vals_of (map packed_val vs))
 packed_list vs = search (rules, the_lemmas)
 
@@ -32,4 +36,4 @@ packed_absent = search (rules, the_lemmas)
 pub packed_present : (v : Packed) → packed_slot (s.Present v) ≡ present (packed_val v)
 packed_present v = search (rules, the_lemmas)
 
-pub ruleset packed_rules = (packed_natural, packed_whole, packed_text, packed_numbers, packed_list, packed_struct, packed_absent, packed_present)
+pub ruleset packed_rules = (packed_natural, packed_whole, packed_text, packed_numbers, packed_own, packed_list, packed_struct, packed_absent, packed_present)

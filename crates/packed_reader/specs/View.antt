@@ -1,11 +1,13 @@
 -- What packed values stand for (this profile's own form of the values of DDS-XTypes 1.3, 7.2.2).
 use Rattle.std.specs.Prelude.{ℕ, zero, suc, pos, List, [], ◌∷◌, take, drop}
 use Rattle.xt_shapes.specs.declared.leaves.Order.{Order}
+use Rattle.xt_shapes.specs.declared.leaves.Order.TheVariants.{Little}
 use Rattle.xt_shapes.specs.declared.leaves.Primitive.{Primitive}
 use Rattle.xt_shapes.specs.Sizes.{size, is_signed}
 use Rattle.xt_shapes.specs.Vals.{Val, Slot, int, text, listed, struct_of, vals_of, slots_of, absent, present}
 use Rattle.xcdr_model.specs.Numbers.{number, with_sign}
 use Rattle.packed_reader.specs.declared.values.Numbers.{Numbers}
+use Rattle.packed_reader.specs.declared.values.OwnNumbers.{OwnNumbers}
 use Rattle.packed_reader.specs.declared.values.Packed.{Packed, fold-Packed}
 use Rattle.packed_reader.specs.declared.values.Packed.TheOpen.{Packed-F, PackedSlot-F}
 use Rattle.packed_reader.specs.declared.values.PackedSlot.{PackedSlot, fold-PackedSlot}
@@ -22,6 +24,9 @@ numbers_in p o (suc n) ys = number_of p o (take (size p) ys) ∷ numbers_in p o 
 abbrev pub numbers_of : Numbers → List Val
 numbers_of x = numbers_in x.prim x.order x.count x.octets.now
 
+abbrev pub own_numbers : OwnNumbers → List Val
+own_numbers x = numbers_in x.prim Little x.count x.octets
+
 -- One level of a packed value.
 module _ (F : Type 0 → Type 0 → Type 0) where
   abbrev pub PackedLevel : Type 0
@@ -36,6 +41,7 @@ packed_level (Packed-F.Natural n) = int (pos n)
 packed_level (Packed-F.Whole i) = int i
 packed_level (Packed-F.Text t) = text t.now
 packed_level (Packed-F.Numbers x) = listed (vals_of (numbers_of x))
+packed_level (Packed-F.Own x) = listed (vals_of (own_numbers x))
 packed_level (Packed-F.List vs) = listed (vals_of vs)
 packed_level (Packed-F.Struct ss) = struct_of (slots_of ss)
 

@@ -15,4 +15,4 @@ mod values;
 
 pub use plain::may_be_plain;
 pub use samples::read_plain;
-pub use values::{Numbers, Packed, PackedSlot};
+pub use values::{Numbers, OwnNumbers, Packed, PackedSlot};

@@ -1,5 +1,5 @@
-// Values that lend their numbers and texts from the octets of a sample.
-use xt_lists::Row;
+// Values that lend their texts, and mostly their numbers, from octets that were read.
+use xt_lists::{Row, Text};
 use xt_shapes::{Order, Prim};
 
 /// So many numbers of a primitive, one after another, as the octets that hold them.
@@ -9,6 +9,31 @@ pub struct Numbers<'a> {
     pub order: Order,
     pub count: u64,
     pub octets: &'a [u8],
+}
+
+/// So many numbers of a primitive, one after another, with the little-endian octets that hold them.
+#[derive(Debug, Drop)]
+pub struct OwnNumbers {
+    pub prim: Prim,
+    pub count: u64,
+    pub octets: Text,
+}
+
+impl OwnNumbers {
+    ghost use Rattle.std.specs.Prelude.{◌≡◌};
+    ghost use Rattle.packed_reader.specs.View.{numbers_of, own_numbers};
+
+    /// The same numbers, lent.
+    pub fn lent(&self) -> Numbers<'_>
+        ensures { numbers_of result ≡ own_numbers self.now }
+    {
+        Numbers {
+            prim: self.prim,
+            order: Order::Little,
+            count: self.count,
+            octets: self.octets.octets(),
+        }
+    }
 }
 
 /// A value over the octets that it was read from.
@@ -21,6 +46,8 @@ pub enum Packed<'a> {
     Text(&'a [u8]),
     /// A sequence or an array of numbers.
     Numbers(Numbers<'a>),
+    /// The same, of numbers that weren't read from octets.
+    Own(OwnNumbers),
     /// A sequence, or an array in row-major order.
     List(Row<Packed<'a>>),
     /// One slot for each member, in declared order.

@@ -11,11 +11,12 @@ use Rattle.xt_shapes.specs.declared.leaves.Rep.TheVariants.{Xcdr1, Xcdr2}
 use Rattle.xt_shapes.specs.Vals.{Val, absent, slots_of, items_in}
 use Rattle.xcdr_model.specs.FixedSpelling.{Fixed, nothing, then_fixed, slot_fixed, fixed_of, members_fixed, members_fixed1, pieces_fixed, params_fixed, scalar_size}
 use Rattle.packed_reader.specs.declared.values.Numbers.{Numbers}
+use Rattle.packed_reader.specs.declared.values.OwnNumbers.{OwnNumbers}
 use Rattle.packed_reader.specs.declared.values.Packed as p
 use Rattle.packed_reader.specs.declared.values.Packed.{Packed}
 use Rattle.packed_reader.specs.declared.values.PackedSlot.{PackedSlot}
-use Rattle.packed_reader.specs.View.{packed_val, packed_slot, numbers_in, numbers_of}
-use Rattle.packed_reader.proofs.Views.{packed_numbers, packed_list}
+use Rattle.packed_reader.specs.View.{packed_val, packed_slot, numbers_in, numbers_of, own_numbers}
+use Rattle.packed_reader.proofs.Views.{packed_numbers, packed_own, packed_list}
 use Rattle.value_writer.proofs.Parts.{each_val_of}
 use Rattle.xcdr_writer.specs.Parts.{presence_fixed, slot_in, piece_in, members_of, pieces_of}
 
@@ -25,6 +26,9 @@ count_numbers p o (suc n) ys = ap (λ (m : ℕ). suc m) (count_numbers p o n _)
 
 pub items_of_numbers : (x : Numbers) → items_in (packed_val (p.Numbers x)) ≡ numbers_of x
 items_of_numbers x = ap items_in (packed_numbers x) ∙ each_val_of (numbers_of x)
+
+pub items_of_own : (x : OwnNumbers) → items_in (packed_val (p.Own x)) ≡ own_numbers x
+items_of_own x = ap items_in (packed_own x) ∙ each_val_of (own_numbers x)
 
 pub items_of_list : (vs : List Packed) → items_in (packed_val (p.List vs)) ≡ map packed_val vs
 items_of_list vs = ap items_in (packed_list vs) ∙ each_val_of (map packed_val vs)

@@ -25,7 +25,8 @@ fn number_in(value: &Packed<'_>) -> Option<i128>
     match value {
         Packed::Natural(number) => Some(i128::from(*number)),
         Packed::Whole(number) => Some(i128::from(*number)),
-        Packed::Text(_) | Packed::Numbers(_) | Packed::List(_) | Packed::Struct(_) => None,
+        Packed::Text(_) => None,
+        Packed::Numbers(_) | Packed::Own(_) | Packed::List(_) | Packed::Struct(_) => None,
     }
 }
 
@@ -75,6 +76,6 @@ pub(crate) fn write_text(value: &Packed<'_>, out: &mut Body) -> Option<()>
     match value {
         Packed::Text(octets) => put_text(octets, out),
         Packed::Natural(_) | Packed::Whole(_) => None,
-        Packed::Numbers(_) | Packed::List(_) | Packed::Struct(_) => None,
+        Packed::Numbers(_) | Packed::Own(_) | Packed::List(_) | Packed::Struct(_) => None,
     }
 }

@@ -40,6 +40,7 @@ fn count_in(value: &Packed<'_>) -> Option<u64>
 {
     match value {
         Packed::Numbers(numbers) => Some(numbers.count),
+        Packed::Own(own) => Some(own.count),
         Packed::List(values) => Some(values.len() as u64),
         Packed::Natural(_) | Packed::Whole(_) | Packed::Text(_) | Packed::Struct(_) => None,
     }
@@ -72,6 +73,7 @@ fn write_items(rep: Rep, ty: &XType, value: &Packed<'_>, out: &mut Body) -> Opti
 {
     match value {
         Packed::Numbers(numbers) => write_run(rep, ty, numbers, out),
+        Packed::Own(own) => write_run(rep, ty, &own.lent(), out),
         Packed::List(values) => write_each(rep, ty, values.as_slice(), out),
         Packed::Natural(_) | Packed::Whole(_) | Packed::Text(_) | Packed::Struct(_) => None,
     }
@@ -115,6 +117,7 @@ fn write_array(rep: Rep, ty: &XType, value: &Packed<'_>, out: &mut Body) -> Opti
 fn least_octets(slot: &PackedSlot<'_>) -> u64 {
     match slot {
         PackedSlot::Present(Packed::Numbers(numbers)) => numbers.octets.len() as u64,
+        PackedSlot::Present(Packed::Own(own)) => own.octets.len() as u64,
         PackedSlot::Present(Packed::Text(octets)) => octets.len() as u64,
         PackedSlot::Present(Packed::List(values)) => values.len() as u64,
         PackedSlot::Present(_) | PackedSlot::Absent => 0,
@@ -399,7 +402,7 @@ fn slots_in<'b, 'a>(value: &'b Packed<'a>) -> Option<&'b [PackedSlot<'a>]>
     match value {
         Packed::Struct(slots) => Some(slots.as_slice()),
         Packed::Natural(_) | Packed::Whole(_) | Packed::Text(_) => None,
-        Packed::Numbers(_) | Packed::List(_) => None,
+        Packed::Numbers(_) | Packed::Own(_) | Packed::List(_) => None,
     }
 }
 

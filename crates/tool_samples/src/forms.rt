@@ -1,13 +1,16 @@
 //! What is written of a sample: a line of its value, or a sample of its value in another representation.
-ghost use Rattle.std.specs.Prelude.{◌≡◌, ◌++◌, Ok, Err, IfOk, IfSome, codes};
+ghost use Rattle.std.specs.Prelude.{◌≡◌, ◌++◌, ◌∷◌, [], Ok, Err, IfOk, IfSome, codes};
 ghost use Rattle.type_trees.specs.View.{tree, val};
 ghost use Rattle.type_rules.specs.Valid.{type_fault};
 ghost use Rattle.xcdr_model.specs.Samples.{sample};
+ghost use Rattle.settled_parts.specs.Settling.{outcome_val};
 ghost use Rattle.packed_reader.specs.View.{packed_val};
+ghost use Rattle.packed_json.specs.Plans.{IsPlanOf, meaning};
+ghost use Rattle.tool_samples.specs.Sampling.{PlansFor};
 ghost use Rattle.tool_samples.specs.lines.Lines as lines;
 
 use crate::lines::{MOST_OCTETS, malformed_text, outcome_text, plain_sample_record, sample_record};
-use packed_json::{Plan, write_value};
+use packed_json::{Plan, write_tree, write_value};
 use packed_reader::Packed;
 use settled_parts::Outcome;
 use shape_laws::sample_sized;
@@ -33,6 +36,7 @@ pub trait Shows {
     ghost use Rattle.packed_reader.specs.View.{packed_val};
     ghost use Rattle.packed_json.specs.Plans.{IsPlanOf, meaning};
     ghost use Rattle.tool_runs.specs.declared.output.ending.Style.{Style};
+    ghost use Rattle.tool_samples.specs.Sampling.{PlansFor};
 
     /// Whether lines or records are written.
     ghost style: { Style };
@@ -40,9 +44,16 @@ pub trait Shows {
     /// The piece for what the reader's type makes of a sample.
     ghost piece: { Self → Tree → Result samples.Outcome Fault → List ℕ };
 
-    /// The piece for a value, or for a sample that is discarded or must be understood.
-    fn outcome(&self, alloc: Global, ty: &XType, outcome: &Outcome) -> Result<Text, OutOfMemory>
-        requires { IsValid ty.now }
+    /// The piece for a value, or for a sample that is discarded or must be understood. A value's may be made by the plan of its type.
+    fn outcome(
+        &self,
+        alloc: Global,
+        ty: &XType,
+        plan: &Option<Plan>,
+        outcome: &Outcome,
+    ) -> Result<Text, OutOfMemory>
+        requires valid { IsValid ty.now }
+        requires planned { PlansFor (tree ty.now) plan.now }
         ensures { IfOk result (λ text. text ≡ piece self.now (tree ty.now) (Ok (outcome_val outcome.now))) };
 
     /// The piece for a plain value of a sample of so many octets, by the plan of its type. None says nothing.
@@ -75,6 +86,40 @@ fn begun_line(alloc: Global, octets: usize) -> Option<Text>
     }
 }
 
+// A line with its end.
+fn ended_line(text: Text) -> Option<Text>
+    ensures { IfSome result (λ line. line ≡ text ++ 10 ∷ []) }
+{
+    match line(text) {
+        Ok(line) => Some(line),
+        Err(_) => None,
+    }
+}
+
+// The octets that memory is asked for at first for the line of a value.
+const LINE: usize = 1_024;
+
+/// The line of a value by the plan of its type. None says nothing.
+pub(crate) fn tree_line(alloc: Global, _ty: &XType, plan: &Plan, value: &Value) -> Option<Text>
+    requires { IsPlanOf (tree _ty.now) (meaning plan.now) }
+    ensures { IfSome result (λ text. text ≡ lines.outcome_line (tree _ty.now) (Ok (sample (val value.now)))) }
+{
+    let mut text = begun_line(alloc, LINE)?;
+    write_tree(plan, value, &mut text)?;
+    ended_line(text)
+}
+
+// The line of what a reading came to, where that is a value and its type has a plan. None says nothing.
+fn planned_line(alloc: Global, ty: &XType, plan: &Option<Plan>, outcome: &Outcome) -> Option<Text>
+    requires { PlansFor (tree ty.now) plan.now }
+    ensures { IfSome result (λ text. text ≡ lines.outcome_line (tree ty.now) (Ok (outcome_val outcome.now))) }
+{
+    match (plan, outcome) {
+        (Some(plan), Outcome::Sample(value)) => tree_line(alloc, ty, plan, value),
+        _ => None,
+    }
+}
+
 /// A line for each sample, with its value as JSON.
 #[derive(Debug, Clone, Copy)]
 pub struct Lines;
@@ -87,8 +132,17 @@ impl Shows for Lines {
 
     ghost piece = { λ s t read. outcome_line t read };
 
-    fn outcome(&self, alloc: Global, ty: &XType, outcome: &Outcome) -> Result<Text, OutOfMemory> {
-        line(outcome_text(alloc, ty, outcome)?)
+    fn outcome(
+        &self,
+        alloc: Global,
+        ty: &XType,
+        plan: &Option<Plan>,
+        outcome: &Outcome,
+    ) -> Result<Text, OutOfMemory> {
+        match planned_line(alloc, ty, plan, outcome) {
+            Some(text) => Ok(text),
+            None => line(outcome_text(alloc, ty, outcome)?),
+        }
     }
 
     // A line mostly has at most four times as many octets as its sample (octets have up to three digits and a comma each), so that its memory
@@ -103,10 +157,7 @@ impl Shows for Lines {
     ) -> Option<Text> {
         let mut text = begun_line(alloc, octets.min(MOST_OCTETS) * 4)?;
         write_value(plan, value, &mut text)?;
-        match text.push(b'\n') {
-            Ok(()) => Some(text),
-            Err(_) => None,
-        }
+        ended_line(text)
     }
 
     fn malformed(
@@ -134,7 +185,13 @@ impl Shows for Conversions {
 
     ghost piece = { λ s t read. converted s.to t read };
 
-    fn outcome(&self, alloc: Global, ty: &XType, outcome: &Outcome) -> Result<Text, OutOfMemory> {
+    fn outcome(
+        &self,
+        alloc: Global,
+        ty: &XType,
+        _plan: &Option<Plan>,
+        outcome: &Outcome,
+    ) -> Result<Text, OutOfMemory> {
         match outcome {
             Outcome::Sample(value) => value_record(alloc, self.to, ty, value),
             Outcome::Discarded => record(alloc, Kind::Note, b"discarded"),

@@ -4,7 +4,6 @@ ghost use Rattle.type_trees.specs.View.{tree};
 ghost use Rattle.type_trees.specs.Bridge.{type_shape};
 ghost use Rattle.projection_laws.specs.Premises.{IsValid};
 ghost use Rattle.xcdr_model.specs.Samples.{read_sample};
-ghost use Rattle.packed_json.specs.Plans.{IsPlanOf, meaning};
 ghost use Rattle.tool_samples.specs.Sampling.{PlansFor, Taken};
 ghost use Rattle.tool_samples.specs.lines.Lines.{sample_line};
 
@@ -47,13 +46,16 @@ fn plain_piece<F: Shows>(
     form: &F,
     rep: Rep,
     ty: &XType,
-    plan: &Plan,
+    plan: &Option<Plan>,
     payload: &[u8],
 ) -> Option<Text>
     requires valid { IsValid ty.now }
-    requires planned { IsPlanOf (tree ty.now) (meaning plan.now) }
+    requires planned { PlansFor (tree ty.now) plan.now }
     ensures { IfSome result (λ text. text ≡ F.piece form.now (tree ty.now) (read_sample rep (type_shape ty.now) payload.now)) }
 {
+    let Some(plan) = plan else {
+        return None;
+    };
     let value = read_plain(alloc, rep, ty, payload)?;
     let text = form.plain(alloc, ty, plan, &value, payload.len())?;
     Some(text)
@@ -65,13 +67,15 @@ fn general_piece<F: Shows>(
     form: &F,
     rep: Rep,
     ty: &XType,
+    plan: &Option<Plan>,
     payload: &[u8],
 ) -> Result<Text, OutOfMemory>
-    requires { IsValid ty.now }
+    requires valid { IsValid ty.now }
+    requires planned { PlansFor (tree ty.now) plan.now }
     ensures { IfOk result (λ text. text ≡ F.piece form.now (tree ty.now) (read_sample rep (type_shape ty.now) payload.now)) }
 {
     match taken(alloc, rep, ty, payload) {
-        Ok(outcome) => form.outcome(alloc, ty, &outcome),
+        Ok(outcome) => form.outcome(alloc, ty, plan, &outcome),
         Err(DecodeFault::Malformed { at, why }) => form.malformed(alloc, ty, at, why),
         Err(DecodeFault::ReadFault | DecodeFault::OutOfMemory) => Err(OutOfMemory),
     }
@@ -83,16 +87,16 @@ pub(crate) fn payload_piece<F: Shows>(
     form: &F,
     rep: Rep,
     ty: &XType,
-    plan: &Plan,
+    plan: &Option<Plan>,
     payload: &[u8],
 ) -> Result<Text, OutOfMemory>
     requires valid { IsValid ty.now }
-    requires planned { IsPlanOf (tree ty.now) (meaning plan.now) }
+    requires planned { PlansFor (tree ty.now) plan.now }
     ensures { IfOk result (λ text. text ≡ F.piece form.now (tree ty.now) (read_sample rep (type_shape ty.now) payload.now)) }
 {
     match plain_piece(alloc, form, rep, ty, plan, payload) {
         Some(text) => Ok(text),
-        None => general_piece(alloc, form, rep, ty, payload),
+        None => general_piece(alloc, form, rep, ty, plan, payload),
     }
 }
 
@@ -108,8 +112,5 @@ pub fn payload_line(
     requires planned { PlansFor (tree ty.now) plan.now }
     ensures { IfOk result (λ text. text ≡ sample_line rep (tree ty.now) payload.now) }
 {
-    match plan {
-        None => general_piece(alloc, &Lines, rep, ty, payload),
-        Some(plan) => payload_piece(alloc, &Lines, rep, ty, plan, payload),
-    }
+    payload_piece(alloc, &Lines, rep, ty, plan, payload)
 }

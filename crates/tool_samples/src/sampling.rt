@@ -6,7 +6,6 @@ ghost use Rattle.projection_laws.specs.Premises.{IsValid};
 ghost use Rattle.xcdr_model.specs.Samples.{read_sample};
 ghost use Rattle.tool_runs.specs.declared.output.turns.Next.TheVariants.{Record};
 ghost use Rattle.tool_runs.specs.output.Runs.{coming, IsReady, GoesOn, StopsReading, TakesPayload};
-ghost use Rattle.packed_json.specs.Plans.{IsPlanOf, meaning};
 ghost use Rattle.tool_samples.specs.Sampling.{Says, PlansFor};
 
 use crate::forms::Shows;
@@ -33,7 +32,7 @@ fn piece_of<F: Shows>(
     ensures { Says outcome_val (F.piece form.now (tree ty.now)) read result }
 {
     match read {
-        Ok(outcome) => match form.outcome(alloc, ty, &outcome) {
+        Ok(outcome) => match form.outcome(alloc, ty, &None, &outcome) {
             Ok(piece) => Ok(piece),
             Err(_) => Err(Stop::Halted(Halt::OutOfMemory)),
         },
@@ -78,13 +77,13 @@ fn held_piece<F: Shows, S: Source>(
     form: &F,
     rep: Rep,
     ty: &XType,
-    plan: &Plan,
+    plan: &Option<Plan>,
     head: Head,
     reader: BundleReader<S>,
 ) -> (BundleReader<S>, Result<Text, Stop>)
     requires ready { IsReady head reader }
     requires valid { IsValid ty.now }
-    requires planned { IsPlanOf (tree ty.now) (meaning plan.now) }
+    requires planned { PlansFor (tree ty.now) plan.now }
     ensures takes { TakesPayload head (λ text octets. text ≡ F.piece form.now (tree ty.now) (read_sample rep (type_shape ty.now) octets)) (coming (Record head) reader) result.0.ahead result.1 }
     ensures on { OnOk result.1 (GoesOn reader result.0) }
     ensures stops { StopsReading reader.faults result.0.faults result.1 }
@@ -122,6 +121,6 @@ pub fn sample_piece<F: Shows, S: Source>(
 {
     match plan {
         None => streamed_piece(alloc, form, rep, ty, head, reader),
-        Some(plan) => held_piece(alloc, form, rep, ty, plan, head, reader),
+        Some(_) => held_piece(alloc, form, rep, ty, plan, head, reader),
     }
 }

@@ -6,6 +6,7 @@ ghost use Rattle.settled_parts.specs.Settling.{outcome_val};
 ghost use Rattle.xcdr_model.specs.Samples.{read_sample};
 ghost use Rattle.json_values.specs.Read.{read_as};
 ghost use Rattle.json_values.specs.Steps.{FailsAs};
+ghost use Rattle.json_values.specs.Written.{json_text};
 ghost use Rattle.json_values.specs.declared.faults.ValueFault.TheVariants.{OutOfMemory as NoMemory};
 ghost use Rattle.dynamic_data.specs.numbers.Kinds as kinds;
 ghost use Rattle.tool_samples.specs.lines.Lines as lines;
@@ -17,15 +18,15 @@ ghost use Rattle.xt_calls.specs.Opened.{front};
 use crate::answers::{
     Answer, DISCARDED, DONE, JSON, MALFORMED, MUST_UNDERSTAND, TOO_LARGE, refuse_words, said,
 };
-use crate::plain::plain_answer;
+use crate::plain::{plain_answer, plain_written};
 use crate::types::Types;
 use crate::words::{Floats, pair_of};
 use dynamic_data::{
-    ValueFault, from_json, from_numbers, has_floats, plain_is_read, plain_is_shown, read_taped,
-    to_json, with_numbers,
+    ValueFault, from_json, from_numbers, has_floats, plain_is_read, plain_is_shown, to_json,
+    with_numbers,
 };
 use json::Scratch;
-use packed_json::{Plan, write_value};
+use packed_json::{Plan, read_taped, write_tree, write_value};
 use packed_reader::{may_be_plain, read_plain};
 use settled_parts::Outcome;
 use std::alloc::Global;
@@ -62,21 +63,6 @@ pub(crate) fn malformed(alloc: Global, at: u64, why: Why) -> Result<Answer, OutO
         status: MALFORMED,
         text,
     })
-}
-
-// What a sample came to, as JSON.
-fn as_json(alloc: Global, ty: &XType, outcome: &Outcome) -> Result<Answer, OutOfMemory>
-    requires { IsValid ty.now }
-    ensures { IfOk result (λ answer. answer ≡ spec.read_answer (tree ty.now) (Ok (outcome_val outcome.now))) }
-{
-    match outcome {
-        Outcome::Sample(value) => {
-            let text = to_json(alloc, ty, value)?;
-            Ok(Answer { status: DONE, text })
-        }
-        Outcome::Discarded => said(alloc, DISCARDED, b"discarded"),
-        Outcome::MustUnderstand => said(alloc, MUST_UNDERSTAND, b"must-understand"),
-    }
 }
 
 // The sample of a value in little-endian order, or this answer where it is too large.
@@ -189,6 +175,42 @@ impl Reader {
         Some(Answer { status: DONE, text })
     }
 
+    // The JSON of a value by the plan of its type. None says nothing.
+    fn planned_json(&self, alloc: Global, value: &Value) -> Option<Text>
+        ensures { IfSome result (λ text. text ≡ json_text (tree self.now.ty) (val value.now)) }
+    {
+        let Some(plan) = &self.plan else {
+            return None;
+        };
+        let mut text = Text::new(alloc);
+        write_tree(plan, value, &mut text)?;
+        Some(text)
+    }
+
+    // The JSON of a value.
+    fn json_of(&self, alloc: Global, value: &Value) -> Result<Text, OutOfMemory>
+        ensures { IfOk result (λ text. text ≡ json_text (tree self.now.ty) (val value.now)) }
+    {
+        match self.planned_json(alloc, value) {
+            Some(text) => Ok(text),
+            None => to_json(alloc, &self.ty, value),
+        }
+    }
+
+    // What a sample came to, as JSON.
+    fn as_json(&self, alloc: Global, outcome: &Outcome) -> Result<Answer, OutOfMemory>
+        ensures { IfOk result (λ answer. answer ≡ spec.read_answer (tree self.now.ty) (Ok (outcome_val outcome.now))) }
+    {
+        match outcome {
+            Outcome::Sample(value) => {
+                let text = self.json_of(alloc, value)?;
+                Ok(Answer { status: DONE, text })
+            }
+            Outcome::Discarded => said(alloc, DISCARDED, b"discarded"),
+            Outcome::MustUnderstand => said(alloc, MUST_UNDERSTAND, b"must-understand"),
+        }
+    }
+
     // The form that is worth its work: raw bits, also where numbers were asked, for a type without floats.
     fn form(&self, floats: Floats) -> Floats
         ensures { spec.StandsFor result floats (tree self.now.ty) }
@@ -225,7 +247,7 @@ impl Reader {
         ensures { IfOk result (λ answer. answer ≡ spec.read_answer (tree self.now.ty) (read_sample self.now.rep (type_shape self.now.ty) sample.now)) }
     {
         match self.taken(alloc, sample) {
-            Ok(outcome) => as_json(alloc, &self.ty, &outcome),
+            Ok(outcome) => self.as_json(alloc, &outcome),
             Err(DecodeFault::Malformed { at, why }) => malformed(alloc, at, why),
             Err(DecodeFault::ReadFault | DecodeFault::OutOfMemory) => Err(OutOfMemory),
         }
@@ -263,25 +285,25 @@ impl Reader {
         }
     }
 
-    // The value of a text with raw bits for floats, read from a tape of its tokens. None says nothing.
-    fn taped(&self, alloc: Global, json: &[u8]) -> Option<Value>
-        ensures { IfSome result (λ value. read_as (tree self.now.ty) json.now ≡ Ok (val value)) }
+    // The sample of a text with raw bits for floats, read from a tape of its tokens. None says nothing.
+    fn write_bits(&self, alloc: Global, to: Rep, json: &[u8]) -> Option<Answer>
+        ensures { IfSome result (λ answer. answer ≡ spec.written_answer to (tree self.now.ty) (read_as (tree self.now.ty) json.now)) }
     {
         if !self.may_be_taped {
             return None;
         }
         let mut scratch = Scratch::new(alloc);
-        read_taped(alloc, &self.ty, json, &mut scratch)
+        let value = read_taped(alloc, &self.ty, json, &mut scratch)?;
+        plain_written(alloc, to, &self.ty, &value, json.len())
     }
 
-    // The value of a text with raw bits for floats.
-    fn bits_meaning(&self, alloc: Global, json: &[u8]) -> Result<Value, ValueFault>
-        ensures ok { IfOk result (λ value. read_as (tree self.now.ty) json.now ≡ Ok (val value)) }
-        ensures err { FailsAs (read_as (tree self.now.ty) json.now) result }
+    // The sample of a text that is read from a tape of its tokens. None says nothing; it comes for floats as numbers, too.
+    fn write_taped(&self, alloc: Global, to: Rep, floats: Floats, json: &[u8]) -> Option<Answer>
+        ensures { IfSome result (λ answer. answer ≡ spec.written_answer to (tree self.now.ty) (spec.meaning floats (tree self.now.ty) json.now)) }
     {
-        match self.taped(alloc, json) {
-            Some(value) => Ok(value),
-            None => from_json(alloc, &self.ty, json),
+        match floats {
+            Floats::Bits => self.write_bits(alloc, to, json),
+            Floats::Numbers => None,
         }
     }
 
@@ -291,7 +313,7 @@ impl Reader {
         ensures err { FailsAs (spec.meaning floats (tree self.now.ty) json.now) result }
     {
         match floats {
-            Floats::Bits => self.bits_meaning(alloc, json),
+            Floats::Bits => from_json(alloc, &self.ty, json),
             Floats::Numbers => from_numbers(alloc, &self.ty, json),
         }
     }
@@ -306,7 +328,11 @@ impl Reader {
     ) -> Result<Answer, OutOfMemory>
         ensures { IfOk result (λ answer. answer ≡ spec.written_answer to (tree self.now.ty) (spec.meaning floats (tree self.now.ty) json.now)) }
     {
-        match self.meaning(alloc, self.form(floats), json) {
+        let form = self.form(floats);
+        if let Some(answer) = self.write_taped(alloc, to, form, json) {
+            return Ok(answer);
+        }
+        match self.meaning(alloc, form, json) {
             Ok(value) => sample_of(alloc, JSON, b"LARGE /", to, &self.ty, &value),
             Err(fault) => refuse_value(alloc, fault),
         }

@@ -13,7 +13,7 @@ use xt_lists::OutOfMemory;
 const FEW: usize = 16;
 
 /// The place of the first member with that name.
-pub(crate) fn place_among(members: &[Member], name: &str) -> Option<usize>
+pub fn place_among(members: &[Member], name: &str) -> Option<usize>
     ensures { result ≡ place_of members.now name.now }
 {
     members

@@ -137,6 +137,7 @@ pub fn packed_key_octets(alloc: Global, ty: &XType, value: &Packed<'_>) -> Resul
         | Packed::Whole(_)
         | Packed::Text(_)
         | Packed::Numbers(_)
+        | Packed::Own(_)
         | Packed::List(_) => octets_of_all(alloc, ty, value),
     }
 }

@@ -83,6 +83,7 @@ pub(crate) fn unpacked(alloc: Global, value: &Packed<'_>) -> Result<Value, OutOf
         Packed::Whole(number) => Ok(Value::Int(i128::from(*number))),
         Packed::Text(octets) => Ok(Value::Str(Text::from_octets(alloc, octets)?)),
         Packed::Numbers(numbers) => Ok(Value::List(unpacked_numbers(alloc, numbers)?)),
+        Packed::Own(own) => Ok(Value::List(unpacked_numbers(alloc, &own.lent())?)),
         Packed::List(values) => Ok(Value::List(unpacked_list(alloc, values.as_slice())?)),
         Packed::Struct(slots) => Ok(Value::Struct(unpacked_slots(alloc, slots.as_slice())?)),
     }

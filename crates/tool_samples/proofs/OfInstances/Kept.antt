@@ -1,5 +1,5 @@
 -- The turns of a body of samples and Notes keep the last values of each key.
-use Rattle.std.proofs.Common.{◌≡◌, refl, sym, ap, ◌∙◌, subst, ℕ, suc, ◌+◌, ◌<◌, ◌≤◌, nat_le, Bool, true, false, ◌&&◌, ◌||◌, if◌then◌else◌, List, [], ◌∷◌, ◌++◌, length, Result, Ok, Err, None, inl, inr, arith}
+use Rattle.std.proofs.Common.{◌≡◌, refl, sym, ap, ◌∙◌, ℕ, suc, ◌+◌, ◌<◌, ◌≤◌, nat_le, Bool, true, false, ◌||◌, if◌then◌else◌, List, [], ◌∷◌, ◌++◌, length, Result, Ok, Err, None, inl, inr, arith}
 use Rattle.std.proofs.lemmas.Bool.{cases_Bool, cases_lt, and_parts, both_ways, le-leb, leb-true}
 use Rattle.std.proofs.lemmas.List.{length-map}
 use Rattle.std.specs.Str.{bytes_eq}
@@ -16,9 +16,9 @@ use Rattle.xcdr_model.specs.Samples.{Outcome, sample, discarded, must_understand
 use Rattle.key_instances.specs.kept.Kept.{Puts, Instances, last, kept, keys_of, values_of, put, all_put, has_key, is_full}
 use Rattle.key_instances.specs.kept.Laws.{KeepsLast as KeptLast}
 use Rattle.tool_runs.specs.declared.output.ending.Style.TheVariants.{Lines}
-use Rattle.tool_runs.specs.output.Outputs.{Output, Turn, goes_on, over, after_turn, after_pieces, passed, refused, run_over, same_kind, taking, misplaced}
+use Rattle.tool_runs.specs.output.Outputs.{Output, goes_on, over, after_turn, refused, run_over, same_kind, taking, misplaced}
 use Rattle.tool_samples.specs.instances.Instancing.{most_keys, full, put_turn, outcome_turn, instances_turn, instances_end}
-use Rattle.tool_samples.specs.instances.Laws.{has_place, before_puts, puts_of, kept_output, KeepsLast}
+use Rattle.tool_samples.specs.instances.Laws.{has_place, before_puts, puts_of, KeepsLast}
 
 -- ---- how many keys there are
 

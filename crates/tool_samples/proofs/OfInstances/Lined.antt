@@ -1,5 +1,5 @@
 -- The lines of instances, one after another.
-use Rattle.std.proofs.Common.{◌≡◌, ℕ, zero, suc, ◌+◌, ◌<◌, ◌≤◌, List, [], ◌∷◌, ◌++◌, map, length, drop, append-nil, append_assoc, None, Some, refl, sym, ap, ◌∙◌, subst, arith}
+use Rattle.std.proofs.Common.{◌≡◌, ℕ, zero, suc, ◌+◌, ◌<◌, ◌≤◌, List, [], ◌∷◌, ◌++◌, length, drop, append-nil, None, Some, refl, sym, ap, ◌∙◌, subst, arith}
 use Rattle.std.specs.declared.option.Option.{Option}
 use Rattle.std.specs.Prelude.{slice_get}
 use Rattle.std.specs.Option.{option_map, option_and_then}
@@ -12,7 +12,7 @@ use Rattle.key_instances.specs.Caches.{key_of, count_of, value_of}
 use Rattle.tool_runs.specs.declared.output.ending.Ending.TheVariants.{Done}
 use Rattle.tool_runs.specs.output.Outputs.{Output, after_pieces, finished}
 use Rattle.tool_runs.specs.output.Runs.{Leads}
-use Rattle.tool_samples.specs.instances.Instancing.{instances_end, instance_line, value_line, value_lines, instance_lines, head_at, values_at, lines_at, all_lines}
+use Rattle.tool_samples.specs.instances.Instancing.{instances_end, instance_line, value_line, value_lines, head_at, values_at, lines_at, all_lines}
 
 -- ---- the instance at a place
 

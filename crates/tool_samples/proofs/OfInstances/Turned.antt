@@ -1,11 +1,8 @@
 -- A sample that was kept or passed over, or whose key is one too many.
-use Rattle.std.proofs.Common.{◌≡◌, ℕ, ◌+◌, ◌*◌, ◌-◌, ◌<◌, ◌≤◌, ◌^◌, Bool, true, false, if◌then◌else◌, List, [], ◌∷◌, None, Some, Result, Ok, Err, IsErrOf, IsTrue, nat_lt, length, take, refl, sym, ap, ap₂, ◌∙◌, subst, arith}
+use Rattle.std.proofs.Common.{◌≡◌, ℕ, ◌-◌, ◌≤◌, Bool, true, false, if◌then◌else◌, List, [], Some, Result, Ok, Err, IsErrOf, IsTrue, nat_lt, length, take, refl, sym, ap, ap₂, ◌∙◌, subst, arith}
 use Rattle.std.proofs.Math.Seq.{take-length}
 use Rattle.std.specs.declared.option.Option.{Option}
-use Rattle.std.specs.Option.{option_map}
 use Rattle.std.proofs.KnownBytes.{Appends-nil}
-use Rattle.xt_io.specs.declared.Head.{Head}
-use Rattle.xt_io.specs.Bundles.{Bundle, before_bundle, item_of}
 use Rattle.xt_shapes.specs.declared.leaves.Rep.{Rep}
 use Rattle.xt_shapes.specs.Lists.{all}
 use Rattle.xt_shapes.specs.NodeRules.{rules_hold}

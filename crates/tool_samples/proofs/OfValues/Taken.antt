@@ -1,11 +1,8 @@
 -- A value whose record was written, or that was refused.
-use Rattle.std.proofs.Common.{◌≡◌, ℕ, List, [], ◌∷◌, None, Some, Result, Ok, Err, sym, ap, ◌∙◌, subst}
+use Rattle.std.proofs.Common.{◌≡◌, ℕ, List, [], ◌∷◌, Some, Ok, Err, sym, ap, subst}
 use Rattle.std.specs.declared.option.Option.{Option}
-use Rattle.std.specs.Option.{option_map}
 use Rattle.std.specs.Io.KnownBytes.{Appends}
 use Rattle.std.proofs.KnownBytes.{Appends-nil}
-use Rattle.xt_io.specs.declared.Head.{Head}
-use Rattle.xt_io.specs.Bundles.{Bundle, before_bundle, item_of}
 use Rattle.xt_io.specs.Outside.{AppendsPrefix}
 use Rattle.tool_runs.specs.declared.output.ending.Style.{Style}
 use Rattle.tool_runs.specs.declared.output.halt.Halt.{Halt}

@@ -1,5 +1,5 @@
 -- What a call that keeps a sample answers (this profile's own).
-use Rattle.std.specs.Prelude.{◌≡◌, ◌<◌, ◌^◌, List, [], length, Result, Ok, Err, IsTrue}
+use Rattle.std.specs.Prelude.{◌≡◌, ◌<◌, ◌^◌, [], length, Result, Ok, Err, IsTrue}
 use Rattle.xt_shapes.specs.Shape.{Shape}
 use Rattle.xt_shapes.specs.Typing.{has_type}
 use Rattle.xcdr_model.specs.KeyOctets.{key_octets}

@@ -1,5 +1,5 @@
 -- The law of what a body comes to whose records are samples and Notes, where the last values of each key are kept (this profile's own).
-use Rattle.std.specs.Prelude.{◌≡◌, ◌≤◌, ℕ, Bool, true, false, List, [], ◌∷◌, ◌||◌, None, Result, Ok, Err, length, nat_le, if◌then◌else◌}
+use Rattle.std.specs.Prelude.{◌≡◌, ◌≤◌, ℕ, Bool, true, List, [], ◌∷◌, ◌||◌, None, Result, Ok, Err, length, nat_le, if◌then◌else◌}
 use Rattle.xt_io.specs.declared.Item.{Item}
 use Rattle.xt_io.specs.declared.Kind.TheVariants.{Sample, Note}
 use Rattle.xt_shapes.specs.declared.leaves.Rep.{Rep}

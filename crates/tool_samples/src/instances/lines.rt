@@ -13,7 +13,7 @@ ghost use Rattle.type_trees.specs.Bridge.{type_shape};
 ghost use Rattle.xcdr_model.specs.Samples.{read_sample};
 ghost use Rattle.std.specs.Prelude.{IfSome};
 
-use crate::forms::{Lines, Shows};
+use crate::forms::{Lines, Shows, tree_line};
 use crate::instances::held::{Held, LastSamples};
 use crate::lines::value_text;
 use crate::payloads::taken;
@@ -61,6 +61,16 @@ impl LastSamples {
         }
     }
 
+    // The line of a value by the plan of its type. None says nothing.
+    fn planned_line(&self, alloc: Global, value: &Value) -> Option<Text>
+        ensures { IfSome result (λ text. text ≡ spec.value_line (tree self.now.ty) (val value.now)) }
+    {
+        match &self.plan {
+            None => None,
+            Some(plan) => tree_line(alloc, &self.ty, plan, value),
+        }
+    }
+
     // The line of a sample that has a value, of which the octets are kept.
     fn octets_line(&self, alloc: Global, payload: &[u8]) -> Result<Text, OutOfMemory>
         ensures { IfOk result (λ text. text ≡ spec.value_line (tree self.now.ty) (value_read (read_sample self.now.rep (type_shape self.now.ty) payload.now))) }
@@ -69,9 +79,19 @@ impl LastSamples {
             return Ok(text);
         }
         match taken(alloc, self.rep, &self.ty, payload) {
-            Ok(Outcome::Sample(value)) => value_line(alloc, &self.ty, &value),
+            Ok(Outcome::Sample(value)) => self.tree_line(alloc, &value),
             _ => Err(OutOfMemory),
         }
+    }
+
+    // The line of a value, by the plan of its type where there is one.
+    fn tree_line(&self, alloc: Global, value: &Value) -> Result<Text, OutOfMemory>
+        ensures { IfOk result (λ text. text ≡ spec.value_line (tree self.now.ty) (val value.now)) }
+    {
+        if let Some(text) = self.planned_line(alloc, value) {
+            return Ok(text);
+        }
+        value_line(alloc, &self.ty, value)
     }
 
     fn held_line(&self, alloc: Global, held: &Held) -> Result<Text, OutOfMemory>
@@ -79,7 +99,7 @@ impl LastSamples {
     {
         match held {
             Held::Octets(payload) => self.octets_line(alloc, payload.octets()),
-            Held::Value(value) => value_line(alloc, &self.ty, value),
+            Held::Value(value) => self.tree_line(alloc, value),
         }
     }
 

@@ -5,17 +5,20 @@ ghost use Rattle.projection_laws.specs.Premises.{IsValid};
 ghost use Rattle.tool_runs.specs.output.Outputs.{Output, after_turn};
 ghost use Rattle.tool_runs.specs.output.Runs.{Steps, StopsWriting};
 ghost use Rattle.tool_samples.specs.lines.Lines as lines;
-ghost use Rattle.tool_samples.specs.values.Values.{TurnsTo};
+ghost use Rattle.tool_samples.specs.values.Values.{Turned, TurnsTo};
 
-use crate::lines::say_sample;
+use crate::lines::{MOST_OCTETS, plain_sample_record, say_sample};
 use crate::values::refusals::{refuse_json, refuse_value};
-use dynamic_data::{from_json, read_taped};
+use dynamic_data::from_json;
 use json::Scratch;
+use packed_json::read_taped;
+use shape_laws::sample_sized;
 use std::alloc::Global;
-use tool_runs::output::{Stop, Style};
+use tool_runs::output::{Stop, Style, say};
 use type_trees::{Value, XType};
 use xcdr_writer::size_of_sample;
 use xt_io::Sink;
+use xt_lists::Text;
 use xt_shapes::Rep;
 
 // A value whose sample isn't too large, with the sample's octets.
@@ -51,32 +54,52 @@ fn read_general(
     }
 }
 
-// The value of a JSON text, read from a tape where there is a scratch for that. None says nothing.
-fn taped(alloc: Global, ty: &XType, payload: &[u8], scratch: &mut Option<Scratch>) -> Option<Value>
+// The record of a JSON text's sample, read from a tape where there is a scratch for that. None says nothing; it comes for too large a sample,
+// too.
+fn taped_record(
+    alloc: Global,
+    ty: &XType,
+    rep: Rep,
+    _number: u32,
+    payload: &[u8],
+    scratch: &mut Option<Scratch>,
+) -> Option<Text>
     requires { IsValid ty.now }
-    ensures { IfSome result (λ value. read_as (tree ty.now) payload.now ≡ Ok (val value)) }
+    ensures { IfSome result (λ piece. Turned (lines.written rep (tree ty.now) _number (read_as (tree ty.now) payload.now)) (Ok piece)) }
 {
-    match scratch {
-        Some(scratch) => read_taped(alloc, ty, payload, scratch),
-        None => None,
+    sample_sized();
+    let Some(scratch) = scratch else {
+        return None;
+    };
+    let value = read_taped(alloc, ty, payload, scratch)?;
+    let piece = plain_sample_record(alloc, rep, ty, &value, payload.len())?;
+    if piece.len() <= MOST_OCTETS + 5 {
+        Some(piece)
+    } else {
+        None
     }
 }
 
-// The value of a JSON text, with its sample's octets.
-fn read_value(
+// The same as `write_value` does, of a text that has to be read in general.
+fn write_general<K: Sink>(
     alloc: Global,
     ty: &XType,
     rep: Rep,
     number: u32,
     payload: &[u8],
-    scratch: &mut Option<Scratch>,
-) -> Result<(Value, u32), Stop>
+    sink: &mut K,
+) -> Result<(), Stop>
     requires { IsValid ty.now }
-    ensures { TurnsTo rep (tree ty.now) (lines.written rep (tree ty.now) number (read_as (tree ty.now) payload.now)) result }
+    ensures steps { (rest : Output) → Steps Style.Records (Some (after_turn Style.Records (lines.written rep (tree ty.now) number (read_as (tree ty.now) payload.now)) (λ u. rest))) (Some rest) result (K.taken sink.old) (K.taken sink.new) }
+    ensures stops { StopsWriting (K.faults sink.old) (K.faults sink.new) result }
+    ensures same { K.name sink.new ≡ K.name sink.old }
 {
-    match taped(alloc, ty, payload, scratch) {
-        Some(value) => sized(alloc, ty, rep, number, value),
-        None => read_general(alloc, ty, rep, number, payload),
+    match read_general(alloc, ty, rep, number, payload) {
+        Err(stop) => Err(stop),
+        Ok((value, octets)) => match say_sample(rep, ty, &value, octets, sink) {
+            Ok(()) => Ok(()),
+            Err(halt) => Err(Stop::Halted(halt)),
+        },
     }
 }
 
@@ -96,9 +119,9 @@ pub fn write_value<K: Sink>(
     ensures stops { StopsWriting (K.faults sink.old) (K.faults sink.new) result }
     ensures same { K.name sink.new ≡ K.name sink.old }
 {
-    match read_value(alloc, ty, rep, number, payload, scratch) {
-        Err(stop) => Err(stop),
-        Ok((value, octets)) => match say_sample(rep, ty, &value, octets, sink) {
+    match taped_record(alloc, ty, rep, number, payload, scratch) {
+        None => write_general(alloc, ty, rep, number, payload, sink),
+        Some(piece) => match say(sink, piece.octets()) {
             Ok(()) => Ok(()),
             Err(halt) => Err(Stop::Halted(halt)),
         },

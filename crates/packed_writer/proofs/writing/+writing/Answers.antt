@@ -12,14 +12,14 @@ use Rattle.type_trees.specs.Bridge.{type_shape, members_shape, member_head}
 use Rattle.type_trees.specs.Parts.{structure_parts}
 use Rattle.type_trees.specs.declared.types.EnumType.{EnumType}
 use Rattle.type_trees.specs.declared.types.MaskType.{MaskType}
-use Rattle.packed_reader.specs.View.{packed_val, packed_slot, numbers_of}
+use Rattle.packed_reader.specs.View.{packed_val, packed_slot, numbers_of, own_numbers}
 use Rattle.packed_reader.proofs.Views.{packed_absent, packed_present}
 use Rattle.xcdr_writer.specs.Parts.{most_of, is_bare, slot_in, piece_in, members_of, pieces_of, items_fixed, counted_items, structure_fixed, presence_fixed, is_short}
 use Rattle.xcdr_writer.proofs.SizeSteps as steps
 use Rattle.xcdr_writer.proofs.Chains.{no_piece, slot_parts}
 use Rattle.xcdr_writer.proofs.ParamSteps.{plain_slot, optional_param}
 use Rattle.packed_writer.proofs.Appending.{begins, onward, ends, last, none, same, some_as, some_counted, apart, short_param, long_param}
-use Rattle.packed_writer.proofs.Values.{items_of_numbers, items_of_list, next_packed, no_more_packed, members_step, members_end, pieces_step, pieces_end, absent_slot}
+use Rattle.packed_writer.proofs.Values.{items_of_numbers, items_of_own, items_of_list, next_packed, no_more_packed, members_step, members_end, pieces_step, pieces_end, absent_slot}
 use Rattle.packed_writer.proofs.writing.+writing.Goals as goal
 
 -- ---- lists
@@ -49,6 +49,13 @@ write_items-returns-in-Numbers t c =
     let shape = type_shape c.args.ty.now in
     let x = c.in-Numbers.numbers in
     some_as c.write_run.result c.args.out.now c.write_run.new.out (items_fixed r Little shape (items_in (packed_val c.args.value.now))) (items_fixed r Little shape (numbers_of x)) (ap (λ v. items_fixed r Little shape (items_in (packed_val v))) c.in-Numbers.is ∙ ap (λ vs. items_fixed r Little shape vs) (items_of_numbers x)) c.write_run.ensures
+
+pub write_items-returns-in-Own : goal.write_items-returns-in-Own
+write_items-returns-in-Own t c =
+    let r = c.args.rep in
+    let shape = type_shape c.args.ty.now in
+    let x = c.in-Own.own in
+    some_as c.write_run-in-Own.result c.args.out.now c.write_run-in-Own.new.out (items_fixed r Little shape (items_in (packed_val c.args.value.now))) (items_fixed r Little shape (own_numbers x)) (ap (λ v. items_fixed r Little shape (items_in (packed_val v))) c.in-Own.is ∙ ap (λ vs. items_fixed r Little shape vs) (items_of_own x)) (rw c.lent.ensures at c.write_run-in-Own.ensures)
 
 pub write_items-returns-in-List : goal.write_items-returns-in-List
 write_items-returns-in-List t c =

@@ -1,6 +1,6 @@
 use Rattle.std.proofs.Common.{◌≡◌, ◌≤◌, Some, drop}
 use Rattle.type_trees.specs.View.{tree}
-use Rattle.tool_samples.specs.instances.Holding.{held_val, kept_in}
+use Rattle.tool_samples.specs.instances.Holding.{kept_in}
 use Rattle.tool_runs.specs.output.Runs.{Leads}
 use Rattle.tool_samples.specs.instances.Instancing.{instances_end}
 use Rattle.tool_samples.proofs.instances.held.LastSamples.say_instances.Given as goal

@@ -1,7 +1,7 @@
 use Rattle.std.proofs.Common.{◌≡◌, ◌≤◌, Some, drop}
 use Rattle.std.specs.Prelude.{slice_get}
 use Rattle.type_trees.specs.View.{tree}
-use Rattle.tool_samples.specs.instances.Holding.{held_val, kept_in}
+use Rattle.tool_samples.specs.instances.Holding.{kept_in}
 use Rattle.tool_runs.specs.output.Outputs.{Output, after_pieces}
 use Rattle.tool_runs.specs.output.Runs.{Leads}
 use Rattle.tool_samples.specs.instances.Instancing.{values_at}

@@ -10,7 +10,6 @@ use Rattle.tool_runs.specs.output.Outputs.{Output, Turn}
 use Rattle.tool_runs.specs.output.Runs.{Steps}
 use Rattle.tool_runs.proofs.OfOutput.Turning.{run_at_taken}
 use Rattle.tool_samples.specs.instances.Instancing.{instances_turn, instances_end, instances_body, payload_turn}
-use Rattle.tool_samples.specs.instances.Keeping.{Keeps}
 use Rattle.tool_samples.proofs.OfInstances.Turned.{kept_on}
 use Rattle.tool_samples.proofs.instances.keeping.LastSamplesPayloads.take.Goals as goal
 

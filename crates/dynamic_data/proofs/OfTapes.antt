@@ -1,4 +1,0 @@
-pub mod Leaves
-pub mod Lists
-pub mod Slots
-pub mod Whole

@@ -1,0 +1,5 @@
+pub mod Leaves
+pub mod Lists
+pub mod Runs
+pub mod Slots
+pub mod Whole
