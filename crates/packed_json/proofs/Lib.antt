@@ -7,3 +7,4 @@ pub mod Structures
 pub mod ListLaws
 pub mod Numbered
 pub mod OfTapes
+pub mod Rows

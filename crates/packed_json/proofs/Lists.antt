@@ -1,8 +1,6 @@
 -- One number more.
-use Rattle.std.proofs.Common.{◌≡◌, refl, ◌∙◌, ℕ, suc, ◌+◌, ◌-◌, ◌<◌, ◌≤◌, Bool, true, List, [], ◌∷◌, ◌++◌, ◌^◌, length, take, drop, get_or, nat_lt, decimal, append_assoc, arith}
+use Rattle.std.proofs.Common.{◌≡◌, refl, ◌∙◌, ℕ, suc, ◌+◌, ◌-◌, ◌<◌, Bool, true, List, [], ◌∷◌, ◌++◌, ◌^◌, length, take, drop, nat_lt, decimal, append_assoc, arith}
 use Rattle.std.proofs.lemmas.Bool.{and_parts, ltb-true, lt-ltb}
-use Rattle.std.proofs.lemmas.List.{drop_all}
-use Rattle.std.proofs.Math.Seq.{drop-cons}
 use Rattle.serde_json.specs.Written.{compact_text, comma_if}
 use Rattle.xt_shapes.specs.Lists.{all}
 use Rattle.xt_shapes.specs.declared.leaves.Order.{Order}
@@ -24,22 +22,7 @@ numbers_next p o later n i ys first more out comma behind within is_first is_mor
     let rest = numbers_text p o true k (drop (size p) ys) in
     rw (is_behind, is_comma, is_first, is_more, next) (append_assoc (out ++ comma_if later) text rest ∙ append_assoc out (comma_if later) (text ++ rest))
 
-pub numbers_end : (p : Primitive) (o : Order) (later : Bool) (n i : ℕ) (ys out : List ℕ) → n ≤ i → out ++ numbers_text p o later (n - i) ys ≡ out ++ 93 ∷ []
-numbers_end p o later n i ys out past =
-    let none : n - i ≡ 0 = omega arith in
-    rw none refl
-
--- ---- octets by blocks
-
-pub octets_next : (xs : List ℕ) (i : ℕ) (later : Bool) (out block out2 block2 block3 block4 : List ℕ) → i < length xs → out2 ++ block2 ≡ out ++ block → block3 ≡ block2 ++ comma_if later → block4 ≡ block3 ++ decimal (get_or xs i 0)
-    → (out2 ++ block4) ++ octets_text true (drop (i + 1) xs) ≡ (out ++ block) ++ octets_text later (drop i xs)
-octets_next xs i later out block out2 block2 block3 block4 within kept comma digits =
-    let next : i + 1 ≡ suc i = omega arith in
-    let cut : drop i xs ≡ get_or xs i 0 ∷ drop (suc i) xs = drop-cons xs i 0 within in
-    rw (digits, comma, next, cut, ← kept) (simp append_assoc)
-
-pub octets_end : (xs : List ℕ) (i : ℕ) (later : Bool) (all : List ℕ) → length xs ≤ i → all ++ octets_text later (drop i xs) ≡ all ++ 93 ∷ []
-octets_end xs i later all past = rw (drop_all i xs past) refl
+-- ---- octets
 
 -- octets are the numbers of the primitive for octets
 number_is : (o : Order) (x : ℕ) → number o (x ∷ []) ≡ x

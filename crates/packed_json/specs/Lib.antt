@@ -1,3 +1,4 @@
 pub mod Lists
 pub mod Plans
+pub mod Rows
 pub mod Tapes

@@ -50,6 +50,18 @@ impl Block {
         self.count += 1;
     }
 
+    /// Adds some of the first of four octets. All four are written, which takes one store.
+    #[inline(always)]
+    pub(crate) fn add_first(&mut self, octets: &[u8], count: usize)
+        requires four { length octets.now ≡ 4 }
+        requires some { count ≤ 4 }
+        requires room { length self.old ≤ 508 }
+        ensures { self.new ≡ self.old ++ take count octets.now }
+    {
+        self.octets[self.count..self.count + 4].copy_from_slice(octets);
+        self.count += count;
+    }
+
     #[inline(always)]
     fn has_room(&self) -> bool
         ensures { result ≡ nat_lt (length self.now) 497 }

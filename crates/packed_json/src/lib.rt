@@ -3,6 +3,7 @@
 
 mod bits;
 mod block;
+mod digits;
 mod numbers;
 mod plan;
 mod tapes;

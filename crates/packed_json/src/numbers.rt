@@ -1,6 +1,6 @@
 //! Numbers and lists of numbers, appended.
-ghost use Rattle.std.specs.Prelude.{◌≡◌, ◌≤◌, ◌++◌, false, IfSome, length};
-ghost use Rattle.serde_json.specs.Written.{compact_text, comma_if};
+ghost use Rattle.std.specs.Prelude.{◌≡◌, ◌++◌, false, IfSome, length};
+ghost use Rattle.serde_json.specs.Written.{compact_text};
 ghost use Rattle.xt_shapes.specs.Sizes as sizes;
 ghost use Rattle.xt_shapes.specs.declared.leaves.Primitive.TheVariants.{Byte};
 ghost use Rattle.json_values.specs.Written as json;
@@ -12,6 +12,7 @@ ghost use Rattle.packed_json.specs.Lists.{numbers_text, octets_text};
 
 use crate::bits::{put_double, put_single};
 use crate::block::{Block, add_digits, make_room};
+use crate::digits::add_behind;
 use crate::texts::{put, put_comma};
 use packed_reader::Numbers;
 use type_values::is_of_prim;
@@ -117,32 +118,21 @@ fn put_numbers(prim: Prim, numbers: &Numbers<'_>, out: &mut Text) -> Option<()>
     Some(())
 }
 
-// A comma, where something stands before.
-#[inline(always)]
-fn add_comma(is_later: bool, block: &mut Block)
-    requires { length block.old ≤ 496 }
-    ensures { block.new ≡ block.old ++ comma_if is_later }
-{
-    if is_later {
-        block.add(44);
-    }
-}
-
 /// Appends the JSON of a list of octets, behind its opening bracket, a block at a time.
 pub(crate) fn put_octets(octets: &[u8], out: &mut Text) -> Option<()>
     ensures { IfSome result (λ u. out.new ≡ out.old ++ octets_text false octets.now) }
 {
+    let [first, rest @ ..] = octets else {
+        return put(b"]", out);
+    };
     let mut block = Block::new();
-    let mut is_later = false;
-    for octet in octets {
+    add_digits(*first, &mut block);
+    for octet in rest {
         make_room(&mut block, out)?;
-        add_comma(is_later, &mut block);
-        add_digits(*octet, &mut block);
-        is_later = true;
+        add_behind(*octet, &mut block);
     }
     put(block.octets(), out)?;
-    put(b"]", out)?;
-    Some(())
+    put(b"]", out)
 }
 
 // A list of so many octets.
