@@ -1,7 +1,9 @@
 -- One or more parts of a definition, each read by a step from what was gathered before it (this profile's own). The number bounds the turns:
 -- each part has an octet at least.
-use Rattle.std.specs.Prelude.{ℕ, zero, suc, if◌then◌else◌, Option, Some, None, codes}
-use Rattle.idl_input.specs.Input.{Input, Parser, ◌>>=◌, pure, syntax, eat, turns}
+use Rattle.std.specs.Prelude.{◌≡◌, ◌≢◌, ℕ, zero, suc, if◌then◌else◌, Option, Some, None, Result, Ok, Err, codes}
+use Rattle.idl_input.specs.declared.faults.IdlFault.{IdlFault}
+use Rattle.idl_input.specs.declared.faults.IdlFault.TheVariants as fault
+use Rattle.idl_input.specs.Input.{Input, Outcome, Parser, ◌>>=◌, pure, syntax, eat, turns}
 
 -- with `,` between them
 unfoldable pub comma_from : {A : Type 0} → (A → Parser A) → ℕ → A → Parser A
@@ -24,3 +26,9 @@ braced_from step (suc n) a = do
 
 abbrev pub to_brace : {A : Type 0} → (A → Parser A) → A → Parser A
 to_brace step a = λ i. braced_from step (turns i) a i
+
+-- ---- what a function that reads ensures of what it is lent: the definition's outcome, unless memory was wanting
+
+abbrev pub Goes : {X A : Type 0} → (X → A) → Outcome A → Result (Unit {0}) IdlFault → X → Input → Type 0
+Goes view outcome (Ok u) x new = outcome ≡ Ok (view x, new)
+Goes view outcome (Err e) x new = e ≢ fault.OutOfMemory → outcome ≡ Err e

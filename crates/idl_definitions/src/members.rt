@@ -1,9 +1,9 @@
-ghost use Rattle.std.specs.Prelude.{◌≡◌, ◌<◌, ◌^◌, ◌||◌, [], false, IfOk};
+ghost use Rattle.std.specs.Prelude.{◌≡◌, ◌<◌, ◌^◌, ◌||◌, [], false, IfOk, OnOk};
 ghost use Rattle.type_trees.specs.View.{tree, member_tree};
 ghost use Rattle.idl_tokens.specs.names.Sets.{has as taken};
 ghost use Rattle.idl_input.specs.Input.{Reads};
 ghost use Rattle.idl_types.specs.Views.{state};
-ghost use Rattle.idl_definitions.specs.Lists.{with_commas};
+ghost use Rattle.idl_definitions.specs.Lists.{Goes, with_commas};
 ghost use Rattle.idl_definitions.specs.Members as spec;
 ghost use Rattle.idl_definitions.specs.Views as view;
 
@@ -142,26 +142,16 @@ pub(crate) struct Listed<'a> {
 
 #[tactic(auto, using(type_trees::proofs::Views::tree_rules, std::proofs::lemmas::List::map_push))]
 fn with_member<'a>(
-    listed: Listed<'a>,
+    listed: &mut Listed<'a>,
     name: &'a [u8],
     member: Member,
-) -> Result<Listed<'a>, OutOfMemory>
-    requires { taken name.now listed.names ≡ false }
-    ensures { IfOk result (λ more. view.listed more ≡ spec.with_member (view.listed listed.entry) name.now (member_tree member)) }
+) -> Result<(), OutOfMemory>
+    requires { taken name.now listed.old.names ≡ false }
+    ensures { OnOk result (view.listed listed.new ≡ spec.with_member (view.listed listed.old) name.now (member_tree member)) }
 {
-    let Listed {
-        mut members,
-        mut names,
-        following: _,
-    } = listed;
-    let following = u64::from(member.id) + 1;
-    names.add(name)?;
-    members.push(member)?;
-    Ok(Listed {
-        members,
-        names,
-        following,
-    })
+    listed.following = u64::from(member.id) + 1;
+    listed.members.push(member)?;
+    listed.names.add(name)
 }
 
 /// One more declarator, of a copy of the type.
@@ -172,15 +162,16 @@ fn another<'a>(
     notes: &[Placed],
     hashed: bool,
     ty: &XType,
-    listed: Listed<'a>,
-) -> Result<Listed<'a>, IdlFault>
-    ensures { Reads view.listed (spec.another notes.now hashed (tree ty.now) (view.listed listed.entry) tokens.old) result tokens.new }
+    listed: &mut Listed<'a>,
+) -> Result<(), IdlFault>
+    ensures { Goes view.listed (spec.another notes.now hashed (tree ty.now) (view.listed listed.old) tokens.old) result listed.new tokens.new }
 {
     let (at, name) = new_name(tokens, &listed.names)?;
     let copy = copy_type(alloc, ty)?;
     let following = listed.following;
     let member = shaped(tokens, alloc, at, name, notes, hashed, following, copy)?;
-    Ok(with_member(listed, name, member)?)
+    with_member(listed, name, member)?;
+    Ok(())
 }
 
 #[tactic(auto, using(crate::proofs::DefinitionLoops::comma_go, crate::proofs::DefinitionLoops::comma_end))]
@@ -190,18 +181,17 @@ fn declarators<'a>(
     notes: &[Placed],
     hashed: bool,
     ty: &XType,
-    listed: Listed<'a>,
-) -> Result<Listed<'a>, IdlFault>
-    ensures { Reads view.listed (with_commas (spec.another notes.now hashed (tree ty.now)) (view.listed listed.entry) tokens.old) result tokens.new }
+    listed: &mut Listed<'a>,
+) -> Result<(), IdlFault>
+    ensures { Goes view.listed (with_commas (spec.another notes.now hashed (tree ty.now)) (view.listed listed.old) tokens.old) result listed.new tokens.new }
 {
-    let mut listed = listed;
     for _turn in 0..tokens.left() {
-        listed = another(tokens, alloc, notes, hashed, ty, listed)?;
+        another(tokens, alloc, notes, hashed, ty, listed)?;
         if !tokens.eat(b",") {
-            return Ok(listed);
+            return Ok(());
         }
     }
-    Ok(listed)
+    Ok(())
 }
 
 /// Members of one type.
@@ -210,14 +200,13 @@ pub(crate) fn members_of_type<'a>(
     tokens: &mut Tokens<'a>,
     reader: &Reader<'a>,
     hashed: bool,
-    listed: Listed<'a>,
-) -> Result<Listed<'a>, IdlFault>
-    ensures { Reads view.listed (spec.members_of_type (state reader.now) hashed (view.listed listed.entry) tokens.old) result tokens.new }
+    listed: &mut Listed<'a>,
+) -> Result<(), IdlFault>
+    ensures { Goes view.listed (spec.members_of_type (state reader.now) hashed (view.listed listed.old) tokens.old) result listed.new tokens.new }
 {
     let alloc = reader.alloc();
     let notes = tokens.notes_at(alloc, Site::Member)?;
     let ty = a_type(tokens, reader)?;
-    let more = declarators(tokens, alloc, notes.as_slice(), hashed, &ty, listed)?;
-    tokens.want(b";")?;
-    Ok(more)
+    declarators(tokens, alloc, notes.as_slice(), hashed, &ty, listed)?;
+    tokens.want(b";")
 }

@@ -1,10 +1,10 @@
 //! Enumerations and bitmasks: definitions whose parts have numbers.
-ghost use Rattle.std.specs.Prelude.{◌≡◌, false, IfOk};
+ghost use Rattle.std.specs.Prelude.{◌≡◌, false, IfOk, OnOk};
 ghost use Rattle.type_trees.specs.View.{tree};
 ghost use Rattle.idl_tokens.specs.names.Sets.{has as taken};
 ghost use Rattle.idl_input.specs.Input.{Reads};
 ghost use Rattle.idl_types.specs.Views.{state};
-ghost use Rattle.idl_definitions.specs.Lists.{with_commas};
+ghost use Rattle.idl_definitions.specs.Lists.{Goes, with_commas};
 ghost use Rattle.idl_definitions.specs.Numbered as spec;
 ghost use Rattle.idl_definitions.specs.Views as view;
 
@@ -84,26 +84,16 @@ fn no_parts<'a, P: NumberedPart>(alloc: Global) -> Numbered<'a, P, P::Number>
 }
 
 fn with_part<'a, P: NumberedPart>(
-    numbered: Numbered<'a, P, P::Number>,
+    numbered: &mut Numbered<'a, P, P::Number>,
     name: &'a [u8],
     part: P,
-) -> Result<Numbered<'a, P, P::Number>, OutOfMemory>
-    requires { taken name.now numbered.names ≡ false }
-    ensures { IfOk result (λ more. view.numbered more ≡ spec.with_part P.numbering (view.numbered numbered.entry) name.now part) }
+) -> Result<(), OutOfMemory>
+    requires { taken name.now numbered.old.names ≡ false }
+    ensures { OnOk result (view.numbered numbered.new ≡ spec.with_part P.numbering (view.numbered numbered.old) name.now part) }
 {
-    let Numbered {
-        mut parts,
-        mut names,
-        following: _,
-    } = numbered;
-    let following = part.following();
-    names.add(name)?;
-    parts.push(part)?;
-    Ok(Numbered {
-        parts,
-        names,
-        following,
-    })
+    numbered.following = part.following();
+    numbered.parts.push(part)?;
+    numbered.names.add(name)
 }
 
 /// One more part.
@@ -111,16 +101,17 @@ fn with_part<'a, P: NumberedPart>(
 fn one_more<'a, P: NumberedPart>(
     tokens: &mut Tokens<'a>,
     alloc: Global,
-    numbered: Numbered<'a, P, P::Number>,
-) -> Result<Numbered<'a, P, P::Number>, IdlFault>
-    ensures { Reads view.numbered (spec.part P.numbering (view.numbered numbered.entry) tokens.old) result tokens.new }
+    numbered: &mut Numbered<'a, P, P::Number>,
+) -> Result<(), IdlFault>
+    ensures { Goes view.numbered (spec.part P.numbering (view.numbered numbered.old) tokens.old) result numbered.new tokens.new }
 {
     let notes = tokens.notes_at(alloc, P::site())?;
     let (at, name) = new_name(tokens, &numbered.names)?;
     let set = settings_of(notes.as_slice());
     let number = number_or(at, P::given(set), numbered.following)?;
     let part = P::new(Text::from_octets(alloc, name)?, set, number);
-    Ok(with_part(numbered, name, part)?)
+    with_part(numbered, name, part)?;
+    Ok(())
 }
 
 #[tactic(auto, using(crate::proofs::DefinitionLoops::comma_go, crate::proofs::DefinitionLoops::comma_end))]
@@ -132,7 +123,7 @@ fn parts<'a, P: NumberedPart>(
 {
     let mut numbered = no_parts(alloc);
     for _turn in 0..tokens.left() {
-        numbered = one_more(tokens, alloc, numbered)?;
+        one_more(tokens, alloc, &mut numbered)?;
         if !tokens.eat(b",") {
             return Ok(numbered);
         }

@@ -149,7 +149,7 @@ fn members<'a>(
         following,
     };
     for _turn in 0..tokens.left() {
-        listed = members_of_type(tokens, reader, hashed, listed)?;
+        members_of_type(tokens, reader, hashed, &mut listed)?;
         if tokens.eat(b"}") {
             return Ok(listed.members);
         }

@@ -1,9 +1,9 @@
-ghost use Rattle.std.specs.Prelude.{◌≡◌, [], map, pos, slice_index, false, IfOk};
+ghost use Rattle.std.specs.Prelude.{◌≡◌, [], map, pos, slice_index, false, IfOk, OnOk};
 ghost use Rattle.type_trees.specs.View.{tree, case_tree, member_tree};
 ghost use Rattle.idl_tokens.specs.names.Sets.{has as taken};
 ghost use Rattle.idl_input.specs.Input.{Reads};
 ghost use Rattle.idl_types.specs.Views.{state};
-ghost use Rattle.idl_definitions.specs.Lists.{to_brace};
+ghost use Rattle.idl_definitions.specs.Lists.{Goes, to_brace};
 ghost use Rattle.idl_definitions.specs.Unions as spec;
 ghost use Rattle.idl_definitions.specs.Views as view;
 
@@ -231,27 +231,13 @@ pub(crate) struct Gathered<'a> {
 }
 
 #[tactic(auto, using(type_trees::proofs::Views::tree_rules, std::proofs::lemmas::List::map_push))]
-fn with_case<'a>(
-    gathered: Gathered<'a>,
-    name: &'a [u8],
-    case: Case,
-) -> Result<Gathered<'a>, OutOfMemory>
-    requires { taken name.now gathered.names ≡ false }
-    ensures { IfOk result (λ more. view.gathered more ≡ spec.with_case (view.gathered gathered.entry) name.now (case_tree case)) }
+fn with_case<'a>(gathered: &mut Gathered<'a>, name: &'a [u8], case: Case) -> Result<(), OutOfMemory>
+    requires { taken name.now gathered.old.names ≡ false }
+    ensures { OnOk result (view.gathered gathered.new ≡ spec.with_case (view.gathered gathered.old) name.now (case_tree case)) }
 {
-    let Gathered {
-        mut cases,
-        mut names,
-        following: _,
-    } = gathered;
-    let following = u64::from(case.id) + 1;
-    names.add(name)?;
-    cases.push(case)?;
-    Ok(Gathered {
-        cases,
-        names,
-        following,
-    })
+    gathered.following = u64::from(case.id) + 1;
+    gathered.cases.push(case)?;
+    gathered.names.add(name)
 }
 
 /// One more case.
@@ -261,9 +247,9 @@ fn another_case<'a>(
     reader: &Reader<'a>,
     hashed: bool,
     form: &LabelForm<'_>,
-    gathered: Gathered<'a>,
-) -> Result<Gathered<'a>, IdlFault>
-    ensures { Reads view.gathered (spec.case (state reader.now) hashed (view.form form.now) (view.gathered gathered.entry) tokens.old) result tokens.new }
+    gathered: &mut Gathered<'a>,
+) -> Result<(), IdlFault>
+    ensures { Goes view.gathered (spec.case (state reader.now) hashed (view.form form.now) (view.gathered gathered.old) tokens.old) result gathered.new tokens.new }
 {
     let alloc = reader.alloc();
     let labels = labels(tokens, alloc, form)?;
@@ -282,7 +268,8 @@ fn another_case<'a>(
         ty,
     )?;
     tokens.want(b";")?;
-    Ok(with_case(gathered, name, case_of(labels, member))?)
+    with_case(gathered, name, case_of(labels, member))?;
+    Ok(())
 }
 
 #[tactic(auto, using(crate::proofs::DefinitionLoops::braced_go, crate::proofs::DefinitionLoops::braced_end))]
@@ -291,15 +278,14 @@ fn cases<'a>(
     reader: &Reader<'a>,
     hashed: bool,
     form: &LabelForm<'_>,
-    gathered: Gathered<'a>,
-) -> Result<Gathered<'a>, IdlFault>
-    ensures { Reads view.gathered (to_brace (spec.case (state reader.now) hashed (view.form form.now)) (view.gathered gathered.entry) tokens.old) result tokens.new }
+    gathered: &mut Gathered<'a>,
+) -> Result<(), IdlFault>
+    ensures { Goes view.gathered (to_brace (spec.case (state reader.now) hashed (view.form form.now)) (view.gathered gathered.old) tokens.old) result gathered.new tokens.new }
 {
-    let mut gathered = gathered;
     for _turn in 0..tokens.left() {
-        gathered = another_case(tokens, reader, hashed, form, gathered)?;
+        another_case(tokens, reader, hashed, form, gathered)?;
         if tokens.eat(b"}") {
-            return Ok(gathered);
+            return Ok(());
         }
     }
     Err(tokens.syntax())
@@ -326,7 +312,9 @@ fn cases_over<'a>(
 {
     let alloc = reader.alloc();
     let form = label_form(alloc, disc)?;
-    cases(tokens, reader, hashed, &form, no_cases(alloc))
+    let mut gathered = no_cases(alloc);
+    cases(tokens, reader, hashed, &form, &mut gathered)?;
+    Ok(gathered)
 }
 
 /// The discriminator's type, and whether it is a key.
