@@ -1,4 +1,4 @@
-ghost use Rattle.std.specs.Prelude.{IfOk, IsOk, IsTrue, All};
+ghost use Rattle.std.specs.Prelude.{◌≡◌, ◌<◌, IfOk, IsOk, IsTrue, All};
 ghost use Rattle.assignability.specs.Views.{verdict_view};
 ghost use Rattle.object_formats.specs.Objects.{hash};
 ghost use Rattle.pair_memo.specs.nodes.Seen.{shape_in, is_seen};
@@ -15,7 +15,8 @@ use assignability::Verdict;
 use object_formats::TypeIdentifier;
 use pair_memo::{Memo, Reach, Steps};
 use std::alloc::Global;
-use std::sync::ledger::Ledger;
+use std::marker::Brand;
+use std::sync::ledger::{Blank, Ledger};
 use type_object::Pool;
 use type_trees::HashId;
 use xcdr_model::Policy;
@@ -107,4 +108,41 @@ pub fn judge_pairs<L: Ledger>(
     ensures bound { IsFew pool.now id1.now id2.now steps.old steps.new }
 {
     judge_pairs_under(alloc, &Policy::standard(), rep, pool, id1, id2, steps)
+}
+
+// The verdict, with steps that begin at a blank.
+fn from_blank<L: Ledger>(
+    alloc: Global,
+    policy: &Policy,
+    rep: Rep,
+    pool: &Pool,
+    id1: &HashId,
+    id2: &HashId,
+    blank: Blank,
+) -> Result<Verdict, OutOfMemory>
+    requires name { blank.name ≡ L.name }
+    requires parts { blank.parts ≡ L.parts }
+    requires some { 0 < L.parts }
+    requires reader { IsOk (resolved pool.now id1.now) }
+    requires writer { IsOk (resolved pool.now id2.now) }
+    ensures { IfOk result (λ v. judged.IsVerdict policy.now rep (resolved pool.now id1.now) (resolved pool.now id2.now) (verdict_view v)) }
+{
+    let mut steps = Steps::<L>::new(blank);
+    judge_pairs_under(alloc, policy, rep, pool, id1, id2, &mut steps)
+}
+
+/// `judge_pairs_under`, where nobody counts the steps.
+pub fn judge_ids(
+    alloc: Global,
+    policy: &Policy,
+    rep: Rep,
+    pool: &Pool,
+    id1: &HashId,
+    id2: &HashId,
+) -> Result<Verdict, OutOfMemory>
+    requires reader { IsOk (resolved pool.now id1.now) }
+    requires writer { IsOk (resolved pool.now id2.now) }
+    ensures { IfOk result (λ v. judged.IsVerdict policy.now rep (resolved pool.now id1.now) (resolved pool.now id2.now) (verdict_view v)) }
+{
+    from_blank::<Brand>(alloc, policy, rep, pool, id1, id2, Blank::new(1))
 }

@@ -14,6 +14,6 @@ mod question;
 mod stops;
 
 pub use assignability::Verdict;
-pub use judge::{judge_pairs, judge_pairs_under};
+pub use judge::{judge_ids, judge_pairs, judge_pairs_under};
 pub use pair_memo::Steps;
 pub use xcdr_model::{Policy, Rule};

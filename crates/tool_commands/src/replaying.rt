@@ -36,8 +36,8 @@ impl<'a> Quiet for Replaying<'a> {
         requires within { AreWithin records.now }
         ensures { Comes (replay_lines (reference_view self.now.reference) records.now) (λ run number body. ⟦<Replays as Turns>⟧.to_write run number body) result }
     {
-        let (ty, pool) = top_and_pool(alloc, &self.reference, records)?;
-        Ok(Replays::new(alloc, ty, pool))
+        let (reader, pool) = top_and_pool(alloc, &self.reference, records)?;
+        Ok(Replays::new(alloc, reader, pool))
     }
 
     ghost at_end = { λ run number. run_at_end _ _ _ _ number };

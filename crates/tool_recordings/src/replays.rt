@@ -1,5 +1,4 @@
 ghost use Rattle.std.specs.Prelude.{◌≡◌, [], ◌∷◌, Some, None, true, IfSome};
-ghost use Rattle.projection_laws.specs.Premises.{IsValid};
 ghost use Rattle.type_trees.specs.View.{tree};
 ghost use Rattle.type_trees.specs.Bridge.{type_shape};
 ghost use Rattle.xt_recorder.specs.Replaying.{reader_of, state_of};
@@ -8,6 +7,7 @@ ghost use Rattle.xt_io.specs.declared.Kind.TheVariants.{Sample};
 ghost use Rattle.tool_runs.specs.output.Outputs.{Output, after_pieces};
 ghost use Rattle.tool_runs.specs.output.Runs.{Steps, StopsWriting};
 ghost use Rattle.type_trees.specs.samples.Tops.{is_top};
+ghost use Rattle.tool_types.specs.names.Meanings.{IsFound};
 ghost use Rattle.tool_samples.specs.Sampling.{PlansFor};
 ghost use Rattle.tool_samples.specs.lines.Lines.{sample_line};
 ghost use Rattle.tool_recordings.specs.Replaying.{replay_turn, replayed_by};
@@ -19,8 +19,8 @@ use std::alloc::Global;
 use tool_runs::output::{Halt, Payloads, Stop, Style};
 use tool_runs::say_pieces;
 use tool_samples::{payload_line, plan_for};
+use tool_types::names::NamedType;
 use type_object::Pool;
-use type_trees::XType;
 use xt_io::{Head, Item, Kind, Sink};
 use xt_lists::Text;
 use xt_recorder::Replayer;
@@ -36,15 +36,16 @@ pub struct Replays {
 
 impl Replays {
     /// A reader's type, with the objects of a pool, before any record. Plain samples are shown by a plan of the type, if it has one.
-    pub fn new(alloc: Global, reader: XType, pool: Pool) -> Replays
-        requires valid { IsValid reader }
-        requires top { is_top (type_shape reader) ≡ true }
-        ensures reader { reader_of result.replayer ≡ tree reader }
+    pub fn new(alloc: Global, reader: NamedType, pool: Pool) -> Replays
+        requires found { IsFound pool reader }
+        requires top { is_top (type_shape reader.ty) ≡ true }
+        ensures reader { reader_of result.replayer ≡ tree reader.ty }
         ensures state { state_of result.replayer ≡ record { pool = pool; stream = None } }
     {
-        let plan = plan_for(alloc, Rep::Xcdr2, &reader);
+        let NamedType { ty, id } = reader;
+        let plan = plan_for(alloc, Rep::Xcdr2, &ty);
         Replays {
-            replayer: Replayer::new(reader, pool),
+            replayer: Replayer::by_id(ty, id, pool),
             plan,
         }
     }

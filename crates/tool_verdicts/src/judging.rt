@@ -1,16 +1,13 @@
-ghost use Rattle.std.specs.Prelude.{◌≡◌, ◌<◌, Ok, IfOk, IsOk};
+ghost use Rattle.std.specs.Prelude.{◌≡◌, Ok, IfOk};
 ghost use Rattle.type_trees.specs.View.{tree};
 ghost use Rattle.type_trees.specs.Bridge.{type_shape};
 ghost use Rattle.assignability.specs.Views.{verdict_view};
 ghost use Rattle.xcdr_model.specs.Failure.{first_failure};
 ghost use Rattle.object_walks.specs.Resolving.{resolved};
-ghost use Rattle.pair_judge.specs.Judged.{IsVerdict};
 
 use assignability::Verdict;
-use pair_judge::{Steps, judge_pairs_under};
+use pair_judge::judge_ids;
 use std::alloc::Global;
-use std::marker::Brand;
-use std::sync::ledger::{Blank, Ledger};
 use type_object::Pool;
 use type_trees::{HashId, XType};
 use xcdr_model::Policy;
@@ -31,34 +28,6 @@ pub struct Side<'a> {
     pub ty: &'a XType,
 }
 
-// The verdict on what two identifiers resolve to, by their objects.
-fn by_objects<L: Ledger>(
-    alloc: Global,
-    terms: &Terms,
-    pool: &Pool,
-    reader: &HashId,
-    writer: &HashId,
-    blank: Blank,
-) -> Result<Verdict, OutOfMemory>
-    requires name { blank.name ≡ L.name }
-    requires parts { blank.parts ≡ L.parts }
-    requires some { 0 < L.parts }
-    requires reader { IsOk (resolved pool.now reader.now) }
-    requires writer { IsOk (resolved pool.now writer.now) }
-    ensures { IfOk result (λ v. IsVerdict terms.now.policy terms.now.rep (resolved pool.now reader.now) (resolved pool.now writer.now) (verdict_view v)) }
-{
-    let mut steps = Steps::<L>::new(blank);
-    judge_pairs_under(
-        alloc,
-        &terms.policy,
-        terms.rep,
-        pool,
-        reader,
-        writer,
-        &mut steps,
-    )
-}
-
 /// Whether a reader's type is assignable from a writer's. They are judged by their objects in the pool, so that a type that stands at many places is
 /// looked at once.
 pub fn verdict_on(
@@ -72,5 +41,12 @@ pub fn verdict_on(
     requires writer { resolved pool.now writer.now.id ≡ Ok (tree writer.now.ty.now) }
     ensures { IfOk result (λ v. verdict_view v ≡ first_failure terms.now.policy terms.now.rep (type_shape reader.now.ty.now) (type_shape writer.now.ty.now)) }
 {
-    by_objects::<Brand>(alloc, terms, pool, &reader.id, &writer.id, Blank::new(1))
+    judge_ids(
+        alloc,
+        &terms.policy,
+        terms.rep,
+        pool,
+        &reader.id,
+        &writer.id,
+    )
 }

@@ -110,22 +110,22 @@ pub fn top_type(alloc: Global, reference: &Reference<'_>, records: &[Item]) -> R
     Ok(found.ty)
 }
 
-/// The structure or union that a word names among what the records of a front declare, with the pool of their objects. It reads and writes
-/// nothing.
+/// The structure or union that a word names among what the records of a front declare, with the pool of their objects, in which its identifier
+/// resolves to it. It reads and writes nothing.
 pub fn top_and_pool(
     alloc: Global,
     reference: &Reference<'_>,
     records: &[Item],
-) -> Result<(XType, Pool), Stop>
+) -> Result<(NamedType, Pool), Stop>
     requires few { length records.now ≤ 1048576 }
     requires within { AreWithin records.now }
-    ensures comes { Comes (spec.top_and_pool (reference_view reference.now) records.now) (λ found. (tree found.0, found.1)) result }
-    ensures valid { IfOk result (λ found. IsValid found.0) }
-    ensures top { IfOk result (λ found. is_top (type_shape found.0) ≡ true) }
+    ensures comes { Comes (spec.top_and_pool (reference_view reference.now) records.now) (λ found. (tree found.0.ty, found.1)) result }
+    ensures found { IfOk result (λ found. IsFound found.1 found.0) }
+    ensures top { IfOk result (λ found. is_top (type_shape found.0.ty) ≡ true) }
 {
     let (declared, pool) = declare(alloc, records)?;
     let found = top_named(alloc, reference, declared.as_slice(), &pool)?;
-    Ok((found.ty, pool))
+    Ok((found, pool))
 }
 
 /// The identifier of the structure or union that a word names among what the records of a front declare, with the pool of their objects, in

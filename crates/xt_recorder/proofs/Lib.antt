@@ -11,4 +11,5 @@ pub mod Reached
 pub mod Agreeing
 pub mod Loading
 pub mod Printed
+pub mod Growing
 pub mod Recorded

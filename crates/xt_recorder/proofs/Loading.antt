@@ -19,7 +19,7 @@ use Rattle.xt_recorder.proofs.Called.{in_front, one_step}
 
 -- ---- what is found with one text more
 
-found_still : (i : HashId) (a b : Texts) (x : List ℕ) → found i a ≡ Some x → found i (a ++ b) ≡ Some x
+pub found_still : (i : HashId) (a b : Texts) (x : List ℕ) → found i a ≡ Some x → found i (a ++ b) ≡ Some x
 found_still i [] b x e = absurd (cc e)
 found_still i (p ∷ a) b x e = by (same_id i p.0) (found_still i a b x) e
   where

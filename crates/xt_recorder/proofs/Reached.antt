@@ -96,7 +96,7 @@ module _ (pool : Texts) where
   distinct_behind before [] a = tt
   distinct_behind before (x ∷ ids) a = (apart (before ++ x ∷ []) ids a.1 x (in_second x before (x ∷ []) (itself_in x [])), distinct_behind (before ++ x ∷ []) ids a.1)
 
-  texted_behind : (before ids : List HashId) → AreBehind pool before ids → AllIn (λ q. IsSome (found q pool)) ids
+  pub texted_behind : (before ids : List HashId) → AreBehind pool before ids → AllIn (λ q. IsSome (found q pool)) ids
   texted_behind before [] a q m = all_none (λ k. IsSome (found k pool)) q m
   texted_behind before (x ∷ ids) a q m =
       elim (first_or_later q x ids m) [ inl e ↦ subst (λ k. IsSome (found k pool)) (sym e) (has_text a.0.object (found x pool) a.0.there) | inr e ↦ texted_behind (before ++ x ∷ []) ids a.1 q e ]

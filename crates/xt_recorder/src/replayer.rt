@@ -2,11 +2,12 @@
 ghost use Rattle.type_trees.specs.View.{tree};
 ghost use Rattle.projection_laws.specs.Premises.{IsValid};
 ghost use Rattle.std.specs.Option.{ForSome};
-ghost use Rattle.xt_recorder.specs.Judged.{IsSo};
+ghost use Rattle.object_walks.specs.Resolving.{resolved};
+ghost use Rattle.xt_recorder.specs.Judged.{IsSo, IsJudgedAs};
 
 use crate::found::Found;
 use type_object::Pool;
-use type_trees::XType;
+use type_trees::{HashId, XType};
 use xt_shapes::Rep;
 
 /// The stream that the samples belong to.
@@ -16,14 +17,16 @@ pub(crate) struct Stream {
     pub(crate) yes: bool,
 }
 
-/// A reader's type, the objects so far, and the stream, once there was one. What was found of the last stream's type is kept, so that many
+/// A reader's type, with an identifier that the objects resolve to it where one is known, the objects so far, and the stream, once there was one. What was found of the last stream's type is kept, so that many
 /// streams of a type cost one verdict; it is forgotten where an object comes that was not there.
 #[derive(Drop)]
 pub struct Replayer {
     pub(crate) reader: XType,
+    pub(crate) id: Option<HashId>,
     pub(crate) pool: Pool,
     pub(crate) stream: Option<Stream>,
     pub(crate) last: Option<Found>,
     ghost valid: { IsValid reader },
+    ghost known: { ForSome id (λ id. IsJudgedAs (tree reader) (resolved pool id)) },
     ghost so: { ForSome last (λ found. IsSo (tree reader) pool found) },
 }

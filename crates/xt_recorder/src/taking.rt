@@ -6,6 +6,8 @@ ghost use Rattle.projection_laws.specs.Premises.{IsValid};
 ghost use Rattle.type_trees.specs.samples.Tops.{is_top};
 ghost use Rattle.xt_recorder.specs.Replays as spec;
 ghost use Rattle.assignability.specs.Views.{verdict_view};
+ghost use Rattle.xcdr_model.specs.Failure.{first_failure};
+ghost use Rattle.xcdr_model.specs.Policies.{standard};
 ghost use Rattle.type_object.specs.Faults as pool_faults;
 ghost use Rattle.type_object.specs.Pools.{added};
 ghost use Rattle.object_walks.specs.Resolving.{resolved};
@@ -22,6 +24,7 @@ use crate::replayer::{Replayer, Stream};
 use crate::streams::stream_of;
 use assignability::{Verdict, judge};
 use object_walks::{ResolveFault, resolve};
+use pair_judge::{Policy, judge_ids};
 use std::alloc::Global;
 use type_object::{Pool, PoolFault};
 use type_rules::is_within_limits;
@@ -29,6 +32,7 @@ use type_trees::samples::is_top;
 use type_trees::{HashId, XType};
 use xcdr_samples::read_sample;
 use xt_io::{Item, Kind};
+use xt_lists::OutOfMemory;
 use xt_shapes::Rep;
 use xt_wire::cursor::{DecodeFault, SliceCursor};
 
@@ -51,6 +55,24 @@ impl Replayer {
     {
         Replayer {
             reader,
+            id: None,
+            pool,
+            stream: None,
+            last: None,
+        }
+    }
+
+    /// The same, where the objects resolve an identifier to the reader's type: whether it is assignable from a stream's is told by their objects then.
+    pub fn by_id(reader: XType, id: HashId, pool: Pool) -> Replayer
+        requires valid { IsValid reader }
+        requires top { is_top (type_shape reader) ≡ true }
+        requires resolves { resolved pool id ≡ Ok (tree reader) }
+        ensures reader { reader_of result ≡ tree reader }
+        ensures state { state_of result ≡ record { pool = pool; stream = None } }
+    {
+        Replayer {
+            reader,
+            id: Some(id),
             pool,
             stream: None,
             last: None,
@@ -115,6 +137,20 @@ impl Replayer {
         }
     }
 
+    // Whether the reader's type is assignable from another: by their objects, where an identifier of the reader's is known.
+    fn judge(&self, alloc: Global, rep: Rep, id: HashId, ty: &XType) -> Result<Verdict, OutOfMemory>
+        requires { resolved self.now.pool id ≡ Ok (tree ty.now) }
+        ensures { IfOk result (λ verdict. verdict_view verdict ≡ first_failure standard rep (type_shape self.now.reader) (type_shape ty.now)) }
+    {
+        match self.id {
+            Some(own) => judge_ids(alloc, &Policy::standard(), rep, &self.pool, &own, &id),
+            None => {
+                is_within_limits();
+                Ok(judge(rep, &self.reader, ty))
+            }
+        }
+    }
+
     // Whether the reader's type is assignable from that of an identifier.
     fn judge_anew(&mut self, alloc: Global, id: HashId, rep: Rep) -> Result<Verdict, ReplayFault>
         ensures ok { IfOk result (λ verdict. judged (reader_of self.old) rep (resolved self.old.pool id) ≡ Some (verdict_view verdict)) }
@@ -130,8 +166,9 @@ impl Replayer {
         if !is_top(&ty) {
             return Err(ReplayFault::Top(id));
         }
-        is_within_limits();
-        let verdict = judge(rep, &self.reader, &ty);
+        let Ok(verdict) = self.judge(alloc, rep, id, &ty) else {
+            return Err(ReplayFault::OutOfMemory);
+        };
         self.last = Found::new(id, rep, &verdict);
         Ok(verdict)
     }
