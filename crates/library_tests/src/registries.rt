@@ -5,7 +5,7 @@ use crate::namings::{Alike, LastSix};
 use crate::objects::{COLOR, object};
 use object_formats::ObjectRule;
 use std::alloc::Global;
-use std::thread;
+use std::thread::{self, Threads};
 use type_registry::{Finding, Kept, Md5Naming, Naming, Pass, RegisterFault, Registry, agree};
 use type_trees::HashId;
 use xt_lists::OutOfMemory;
@@ -275,31 +275,62 @@ pub(crate) fn is_found<N: Naming>(registry: &Registry<N>, alloc: Global, octets:
     finds_octets(registry, &pass, octets)
 }
 
+/// Whether two findings agree and are of one object, which a pass that knew nothing finds.
+fn is_agreed<'r>(
+    registry: &'r Registry<Md5Naming>,
+    alloc: Global,
+    first: &Finding<'r, Md5Naming>,
+    second: &Finding<'r, Md5Naming>,
+) -> bool
+    requires { (first.now.registry ≡ registry.now) × (second.now.registry ≡ registry.now) }
+{
+    agree(first, second)
+        && first.octets() == second.octets()
+        && is_found(registry, alloc, first.octets())
+}
+
+/// Whether a hundred findings agree with a hundred in the other order.
+fn are_agreed<'r>(
+    registry: &'r Registry<Md5Naming>,
+    alloc: Global,
+    up: &[Finding<'r, Md5Naming>],
+    down: &[Finding<'r, Md5Naming>],
+) -> bool
+    requires up { All (λ f. f.registry ≡ registry.now) up.now }
+    requires down { All (λ f. f.registry ≡ registry.now) down.now }
+{
+    if up.len() != 100 || down.len() != 100 {
+        return false;
+    }
+    for i in 0..100usize {
+        if !is_agreed(registry, alloc, &up[i], &down[99 - i]) {
+            return false;
+        }
+    }
+    true
+}
+
+/// Whether two threads that register the same objects in turned orders agree on each.
+fn agree_on_each(rt: &impl Threads, alloc: Global, registry: &Registry<Md5Naming>) -> bool {
+    let (up, down) = thread::join(
+        rt,
+        move || -> Result<Vec<Finding<Md5Naming>>, OutOfMemory>
+            ensures { IfOk result (λ found. All (λ f. f.registry ≡ registry.entry.now) found.items) }
+        { register_all(registry, alloc, false) },
+        move || -> Result<Vec<Finding<Md5Naming>>, OutOfMemory>
+            ensures { IfOk result (λ found. All (λ f. f.registry ≡ registry.entry.now) found.items) }
+        { register_all(registry, alloc, true) },
+    );
+    match (up, down) {
+        (Ok(up), Ok(down)) => are_agreed(registry, alloc, &up, &down),
+        _ => false,
+    }
+}
+
 #[test]
 fn threads_agree_on_each_object(rt: HostRuntime) {
     let registry: Registry<Md5Naming> = Registry::new(rt.alloc());
-    let alloc = rt.alloc();
-    let shared = &registry;
-    let (up, down) = thread::join(
-        &rt,
-        move || -> Result<Vec<Finding<Md5Naming>>, OutOfMemory>
-            ensures { IfOk result (λ found. All (λ f. f.registry ≡ shared.entry.now) found.items) }
-        { register_all(shared, alloc, false) },
-        move || -> Result<Vec<Finding<Md5Naming>>, OutOfMemory>
-            ensures { IfOk result (λ found. All (λ f. f.registry ≡ shared.entry.now) found.items) }
-        { register_all(shared, alloc, true) },
-    );
-    match (up, down) {
-        (Ok(up), Ok(down)) => {
-            assert!(rt; up.len() == 100 && down.len() == 100);
-            for i in 0..100usize {
-                let (a, b) = (&up[i], &down[99 - i]);
-                assert!(rt; agree(a, b) && a.octets() == b.octets());
-                assert!(rt; is_found(&registry, alloc, a.octets()));
-            }
-        }
-        _ => panic!(rt; "no memory"),
-    }
+    assert!(rt; agree_on_each(&rt, rt.alloc(), &registry));
 }
 
 fn expect_send<T: Send>(_value: &T) {}

@@ -5,7 +5,7 @@ ghost use Rattle.std.specs.List.{All};
 use lookup_service::workers::{Gate, NoGate, Seat, ServeFault, serve_workers};
 use std::alloc::Global;
 use std::sync::atomic::{AtomicU64, Ordering};
-use std::thread;
+use std::thread::{self, Threads};
 use type_registry::{Md5Naming, Registry};
 use xt_io::{Door, MemDoor, Script, Turn};
 use xt_lists::{OutOfMemory, Row, Text};
@@ -105,41 +105,76 @@ impl Gate for Both {
     }
 }
 
+// Whether the doors of these seats hold so many sessions each.
+fn hold(seats: &[Seat<'_, Md5Naming, MemDoor>], sessions: &[usize]) -> bool {
+    if seats.len() != sessions.len() {
+        return false;
+    }
+    for (seat, count) in seats.iter().zip(sessions) {
+        if held(&seat.door) != *count {
+            return false;
+        }
+    }
+    true
+}
+
+// Whether workers with two turns each, at doors that fail at these calls, answer this, and hold so many sessions each.
+fn serve<R: Threads + Sync, G: Gate>(
+    rt: &R,
+    alloc: Global,
+    registry: &Registry<Md5Naming>,
+    gate: &G,
+    fails: &[u64],
+    answer: Result<u64, ServeFault>,
+    sessions: &[usize],
+) -> bool
+    requires { length fails.now ≤ 64 }
+{
+    let Ok(mut seats) = seats(alloc, registry, fails) else {
+        return false;
+    };
+    let served = serve_workers(rt, alloc, registry, &mut seats, 2, gate);
+    served == answer && hold(seats.as_slice(), sessions)
+}
+
+// Whether it was called for four first requests and four second ones, and no call waited in vain.
+fn is_called_beside(gate: &Both) -> bool {
+    gate.late.load(Ordering::SeqCst) == 0
+        && gate.calls.load(Ordering::SeqCst) == 8
+        && gate.firsts.load(Ordering::SeqCst) == 4
+        && gate.seconds.load(Ordering::SeqCst) == 4
+}
+
 #[test]
 fn two_workers_hold_their_sessions_beside_each_other(rt: HostRuntime) {
     let alloc = rt.alloc();
     let registry: Registry<Md5Naming> = Registry::new(alloc);
-    let mut seats = seats(alloc, &registry, &[0, 0]).expect(&rt, "memory");
     let gate = Both {
         calls: AtomicU64::new(0),
         firsts: AtomicU64::new(0),
         seconds: AtomicU64::new(0),
         late: AtomicU64::new(0),
     };
-    let served = serve_workers(&rt, alloc, &registry, &mut seats, 2, &gate);
-    assert!(rt; served == Ok(4));
-    assert!(rt; gate.late.load(Ordering::SeqCst) == 0 && gate.calls.load(Ordering::SeqCst) == 8);
-    assert!(rt;
-        gate.firsts.load(Ordering::SeqCst) == 4 && gate.seconds.load(Ordering::SeqCst) == 4
-    );
-    for seat in seats.as_slice() {
-        assert!(rt; held(&seat.door) == 2);
-    }
+    assert!(rt; serve(&rt, alloc, &registry, &gate, &[0, 0], Ok(4), &[2, 2]));
+    assert!(rt; is_called_beside(&gate));
 }
 
 #[test]
 fn a_door_that_fails_ends_its_own_worker(rt: HostRuntime) {
     let alloc = rt.alloc();
     let registry: Registry<Md5Naming> = Registry::new(alloc);
-    let mut none = seats(alloc, &registry, &[]).expect(&rt, "memory");
-    let served = serve_workers(&rt, alloc, &registry, &mut none, 2, &NoGate);
-    assert!(rt; served == Ok(0));
-    let mut seats = seats(alloc, &registry, &[0, 0, 0, 2, 0]).expect(&rt, "memory");
-    let served = serve_workers(&rt, alloc, &registry, &mut seats, 2, &NoGate);
-    assert!(rt; served == Err(ServeFault::DoorFault));
-    let all = seats.as_slice();
-    let sessions = [2, 2, 2, 1, 2];
-    for (seat, count) in all.iter().zip(sessions) {
-        assert!(rt; held(&seat.door) == count);
-    }
+    assert!(rt; serve(&rt, alloc, &registry, &NoGate, &[], Ok(0), &[]));
+    let fails = [0, 0, 0, 2, 0];
+    let fault = Err(ServeFault::DoorFault);
+    assert!(rt;
+        serve(
+            &rt,
+            alloc,
+            &registry,
+            &NoGate,
+            &fails,
+            fault,
+            &[2, 2, 2, 1, 2]
+        )
+    );
 }
