@@ -29,7 +29,7 @@ typedef struct xt_reader { void *at; } xt_reader;
 enum {
     XT_OK = 0,
     XT_NO = 1,              /* not assignable: `no RULE PATH` */
-    XT_WORDS = 2,           /* a word names no type, or a number is none of those below */
+    XT_WORDS = 2,           /* a word has no form that names a type, or a number is none of those below */
     XT_BUNDLE = 3,          /* `bundle AT WHY` */
     XT_MEMORY = 6,
     XT_TYPES = 7,           /* `idl ..`, `object ..`, `pool ..`, `resolve ..`, `top WORD` */

@@ -106,7 +106,7 @@ class NotAssignable(Refused):
 
 
 class Words(Refused):
-    """2: a word names no type, or a number is none of those that the call takes."""
+    """2: a word has no form that names a type, or a number is none of those that the call takes."""
 
 
 class BadBundle(Refused):

@@ -75,7 +75,7 @@ pub mod policy {
 pub enum Status {
     /// The reader's type isn't assignable from the writer's.
     NotAssignable,
-    /// A word names no type, or a number is none of those that the call takes.
+    /// A word has no form that names a type, or a number is none of those that the call takes.
     Words,
     Bundle,
     Memory,
