@@ -1,19 +1,13 @@
 -- What contracts see of a cache (this profile's own).
 use Rattle.std.specs.Prelude.{◌≤◌, ℕ, zero, suc, List, [], ◌∷◌, ◌++◌, length, map, All, Option, slice_get}
 use Rattle.std.specs.Option.{option_map, option_and_then}
-use Rattle.type_trees.specs.View.{val}
-use Rattle.type_trees.specs.declared.values.Value.{Value}
-use Rattle.xt_shapes.specs.Vals.{Val}
-use Rattle.key_instances.specs.kept.Kept.{Instances, InstancesOf, last}
+use Rattle.key_instances.specs.kept.Kept.{InstancesOf, last}
 
 -- how many values are kept of a key, how many keys there may be, and the keys with their values
 pub record CacheOf (V : Type 0) : Type 0 where
   pub depth : ℕ
   pub most : ℕ
   pub entries : List (List ℕ × List V)
-
-abbrev pub Cache : Type 0
-Cache = CacheOf Value
 
 -- none of these keys has more values
 abbrev pub AreWithin : {V : Type 0} → ℕ → InstancesOf V → Type 0
@@ -50,9 +44,3 @@ entry_as f e = (e.0, map f e.1)
 
 abbrev pub entries_as : {V W : Type 0} → (V → W) → InstancesOf V → InstancesOf W
 entries_as f es = map (entry_as f) es
-
-abbrev pub shown : List ℕ × List Value → List ℕ × List Val
-shown e = entry_as val e
-
-abbrev pub instances : Cache → Instances
-instances c = map shown c.entries

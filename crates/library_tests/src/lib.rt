@@ -27,6 +27,8 @@ mod pushes;
 #[cfg(test)]
 mod registries;
 #[cfg(test)]
+mod replays;
+#[cfg(test)]
 mod unwritten;
 #[cfg(test)]
 mod workers;

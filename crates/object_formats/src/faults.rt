@@ -11,7 +11,8 @@ pub enum ObjectRule {
     Long,
     /// A field is whole before its region or the text ends: at the field, behind its padding, or at the end if that comes first.
     Short,
-    /// The first octet is a kind of object: 0xF1 or 0xF2, and then that of an alias, enumeration, bitmask, structure or union.
+    /// Behind its first count a text has 0xF1 or 0xF2, and then the kind of an alias, enumeration, bitmask, structure or union: at the
+    /// first of the two octets that isn't so.
     Kind,
     /// Padding is 0: at the first octet that isn't.
     Padding,
@@ -23,7 +24,7 @@ pub enum ObjectRule {
     Text,
     /// No annotation is there: at the octet that isn't 0.
     Annotation,
-    /// An identifier is one of the table's, in its small form where that holds it, and nests at most 16 deep: at its first octet,
+    /// An identifier is of a form that the profile has, small where that holds it, and nests at most 16 deep: at its first octet,
     /// or at the octet that says of which kind the identifiers in it are.
     Identifier,
     /// A base is none, or a hash of the object's own kind: at its first octet.

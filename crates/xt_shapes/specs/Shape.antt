@@ -1,5 +1,5 @@
 -- A type as decoding sees it: aliases resolved, type names and bases dropped, names as hash numbers (DDS-XTypes 1.3, 7.3.4:
--- the minimal type; that aliases are resolved is this profile's own). Two types are equivalent where these are equal.
+-- the minimal type; that aliases are resolved and bases dropped is this profile's own). Two types are equivalent where these are equal.
 use Rattle.std.specs.Prelude.{ℕ, ◌*◌, ℤ, List, [], ◌∷◌, Bool}
 use Rattle.xt_shapes.specs.declared.leaves.Ext.{Ext}
 use Rattle.xt_shapes.specs.declared.leaves.Try.{Try}
