@@ -29,6 +29,6 @@ to_brace step a = λ i. braced_from step (turns i) a i
 
 -- ---- what a function that reads ensures of what it is lent: the definition's outcome, unless memory was wanting
 
-abbrev pub Goes : {X A : Type 0} → (X → A) → Outcome A → Result (Unit {0}) IdlFault → X → Input → Type 0
+abbrev pub Goes : {X A U : Type 0} → (X → A) → Outcome A → Result U IdlFault → X → Input → Type 0
 Goes view outcome (Ok u) x new = outcome ≡ Ok (view x, new)
 Goes view outcome (Err e) x new = e ≢ fault.OutOfMemory → outcome ≡ Err e

@@ -67,12 +67,17 @@ id_for at ns hashed following s =
 abbrev pub a_member : List Placed → ℕ → Text → MemberHead
 a_member ns id s = with_notes ns (record { id = id; name = name_of.Full s; tc = Try.Discard; optional = false; must_understand = false; key = false })
 
+-- with its id
+abbrev pub formed : ℕ → Text → List Placed → Bool → ℕ → Tree → Parser (MemberHead × Tree)
+formed at s ns hashed following whole = do
+  id ← id_for at ns hashed following s
+  pure (a_member ns id s, whole)
+
 -- the dimensions behind a name, and the id
 unfoldable pub shaped : ℕ → Text → List Placed → Bool → ℕ → Tree → Parser (MemberHead × Tree)
 shaped at s ns hashed following t = do
   whole ← dimensioned t
-  id ← id_for at ns hashed following s
-  pure (a_member ns id s, whole)
+  formed at s ns hashed following whole
 
 -- members so far, the own names among them, and the id after the last one's
 pub record Listed : Type 0 where

@@ -1,7 +1,7 @@
-ghost use Rattle.std.specs.Prelude.{◌≡◌, ◌<◌, ◌^◌, ◌||◌, [], false, IfOk, OnOk};
+ghost use Rattle.std.specs.Prelude.{◌≡◌, ◌<◌, ◌^◌, ◌||◌, [], false, codes, is_some, IfOk, IfSome, OnOk};
 ghost use Rattle.type_trees.specs.View.{tree, member_tree};
 ghost use Rattle.idl_tokens.specs.names.Sets.{has as taken};
-ghost use Rattle.idl_input.specs.Input.{Reads};
+ghost use Rattle.idl_input.specs.Input.{Reads, sees};
 ghost use Rattle.idl_types.specs.Views.{state};
 ghost use Rattle.idl_definitions.specs.Lists.{Goes, with_commas};
 ghost use Rattle.idl_definitions.specs.Members as spec;
@@ -86,8 +86,36 @@ pub fn dimensioned(tokens: &mut Tokens<'_>, alloc: Global, ty: XType) -> Result<
     Ok(with_dims(alloc, ty, dims)?)
 }
 
+/// A member or case of this type, from after its dimensions.
+#[tactic(auto, using(type_trees::proofs::Views::tree_rules))]
+fn formed(
+    tokens: &Tokens<'_>,
+    alloc: Global,
+    at: u32,
+    name: &[u8],
+    notes: &[Placed],
+    hashed: bool,
+    following: u64,
+    ty: XType,
+) -> Result<Member, IdlFault>
+    ensures { Reads member_tree (spec.formed at name.now notes.now hashed following (tree ty) tokens.now) result tokens.now }
+{
+    let id = id_for(tokens, at, notes, hashed, following, name)?;
+    let mut member = Member {
+        id,
+        name: Name::Full(Text::from_octets(alloc, name)?),
+        ty,
+        tc: Try::Discard,
+        optional: false,
+        must_understand: false,
+        key: false,
+    };
+    apply_notes(notes, &mut member);
+    Ok(member)
+}
+
 /// A member or case, from after its name.
-#[tactic(auto, using(type_trees::proofs::Views::tree_rules), unfolding(crate::specs::Members::shaped))]
+#[tactic(auto, unfolding(crate::specs::Members::shaped))]
 pub fn shaped(
     tokens: &mut Tokens<'_>,
     alloc: Global,
@@ -101,18 +129,7 @@ pub fn shaped(
     ensures { Reads member_tree (spec.shaped at name.now notes.now hashed following (tree ty) tokens.old) result tokens.new }
 {
     let ty = dimensioned(tokens, alloc, ty)?;
-    let id = id_for(tokens, at, notes, hashed, following, name)?;
-    let mut member = Member {
-        id,
-        name: Name::Full(Text::from_octets(alloc, name)?),
-        ty,
-        tc: Try::Discard,
-        optional: false,
-        must_understand: false,
-        key: false,
-    };
-    apply_notes(notes, &mut member);
-    Ok(member)
+    formed(tokens, alloc, at, name, notes, hashed, following, ty)
 }
 
 /// A name that isn't taken, and its place.
@@ -154,24 +171,40 @@ fn with_member<'a>(
     listed.names.add(name)
 }
 
-/// One more declarator, of a copy of the type.
-#[tactic(auto, unfolding(crate::specs::Members::another))]
+/// A copy of the type, where it is wanted.
+fn copy_if(wanted: bool, alloc: Global, ty: &XType) -> Result<Option<XType>, OutOfMemory>
+    ensures copy { IfOk result (λ copy. IfSome copy (λ t. tree t ≡ tree ty.now)) }
+    ensures wanted { IfOk result (λ copy. is_some copy ≡ wanted) }
+{
+    if wanted {
+        Ok(Some(copy_type(alloc, ty)?))
+    } else {
+        Ok(None)
+    }
+}
+
+/// One more declarator of the type, and a copy of that where another one follows.
+#[tactic(auto, unfolding(crate::specs::Members::another, crate::specs::Members::shaped, crate::specs::Members::dimensioned))]
 fn another<'a>(
     tokens: &mut Tokens<'a>,
     alloc: Global,
     notes: &[Placed],
     hashed: bool,
-    ty: &XType,
+    ty: XType,
     listed: &mut Listed<'a>,
-) -> Result<(), IdlFault>
-    ensures { Goes view.listed (spec.another notes.now hashed (tree ty.now) (view.listed listed.old) tokens.old) result listed.new tokens.new }
+) -> Result<Option<XType>, IdlFault>
+    ensures goes { Goes view.listed (spec.another notes.now hashed (tree ty) (view.listed listed.old) tokens.old) result listed.new tokens.new }
+    ensures again { IfOk result (λ again. IfSome again (λ t. tree t ≡ tree ty)) }
+    ensures more { IfOk result (λ again. is_some again ≡ sees (codes ",") tokens.new) }
 {
     let (at, name) = new_name(tokens, &listed.names)?;
-    let copy = copy_type(alloc, ty)?;
     let following = listed.following;
-    let member = shaped(tokens, alloc, at, name, notes, hashed, following, copy)?;
+    let dims = dims(tokens, alloc)?;
+    let again = copy_if(tokens.sees(b","), alloc, &ty)?;
+    let whole = with_dims(alloc, ty, dims)?;
+    let member = formed(tokens, alloc, at, name, notes, hashed, following, whole)?;
     with_member(listed, name, member)?;
-    Ok(())
+    Ok(again)
 }
 
 #[tactic(auto, using(crate::proofs::DefinitionLoops::comma_go, crate::proofs::DefinitionLoops::comma_end))]
@@ -180,15 +213,17 @@ fn declarators<'a>(
     alloc: Global,
     notes: &[Placed],
     hashed: bool,
-    ty: &XType,
+    mut ty: XType,
     listed: &mut Listed<'a>,
 ) -> Result<(), IdlFault>
-    ensures { Goes view.listed (with_commas (spec.another notes.now hashed (tree ty.now)) (view.listed listed.old) tokens.old) result listed.new tokens.new }
+    ensures { Goes view.listed (with_commas (spec.another notes.now hashed (tree ty)) (view.listed listed.old) tokens.old) result listed.new tokens.new }
 {
     for _turn in 0..tokens.left() {
-        another(tokens, alloc, notes, hashed, ty, listed)?;
-        if !tokens.eat(b",") {
-            return Ok(());
+        let again = another(tokens, alloc, notes, hashed, ty, listed)?;
+        tokens.eat(b",");
+        match again {
+            Some(copy) => ty = copy,
+            None => return Ok(()),
         }
     }
     Ok(())
@@ -207,6 +242,6 @@ pub(crate) fn members_of_type<'a>(
     let alloc = reader.alloc();
     let notes = tokens.notes_at(alloc, Site::Member)?;
     let ty = a_type(tokens, reader)?;
-    declarators(tokens, alloc, notes.as_slice(), hashed, &ty, listed)?;
+    declarators(tokens, alloc, notes.as_slice(), hashed, ty, listed)?;
     tokens.want(b";")
 }

@@ -1,8 +1,6 @@
-pub mod Gives
 pub mod Sound
 pub mod Uses
 pub mod Types
-pub mod Loops
 pub mod Members
 pub mod Structures
 pub mod NewTypes

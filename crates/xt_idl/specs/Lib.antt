@@ -1,4 +1,5 @@
 pub mod Leading
+pub mod Checking
 pub mod Whole
 pub mod Worked
 pub mod Again

@@ -2,6 +2,7 @@
 //! `print` gives the one text of a list of types.
 #![tactic(auto)]
 
+mod checking;
 mod leading;
 mod reading;
 

@@ -1,12 +1,16 @@
-ghost use Rattle.std.specs.Prelude.{◌≡◌, ◌≤◌, length};
+ghost use Rattle.std.specs.Prelude.{◌≡◌, ◌≤◌, length, true, None, IfNone, IfOk, OnOk};
+ghost use Rattle.type_trees.specs.View.{tree};
 ghost use Rattle.type_rules.specs.Faults.{fault_view};
-ghost use Rattle.idl_input.specs.Input.{Reads};
+ghost use Rattle.type_rules.specs.Valid.{type_fault};
+ghost use Rattle.idl_input.specs.Input.{Reads, keyword_at};
 ghost use Rattle.idl_types.specs.State.{declared};
 ghost use Rattle.idl_types.specs.Views.{state};
 ghost use Rattle.idl_definitions.specs.Views.{made};
+ghost use Rattle.xt_idl.specs.Checking.{has_sound_parts, all_valid};
 ghost use Rattle.xt_idl.specs.Whole as spec;
 ghost use Rattle.xt_idl.specs.Whole.{Leads, Changes, Declares};
 
+use crate::checking::check_definition;
 use crate::leading::leading_notes;
 use idl_definitions::{
     Made, bitmask_def, enum_def, settings_of, struct_def, typedef_def, union_def,
@@ -16,7 +20,7 @@ use idl_tokens::TokenKind;
 use idl_tokens::names::Meaning;
 use idl_types::Reader;
 use std::alloc::Global;
-use type_rules::{TypeFault, check_type};
+use type_rules::TypeFault;
 use type_trees::{Named, Path};
 use xt_annotations::Placed;
 use xt_lists::Row;
@@ -53,9 +57,25 @@ fn definition_by<'a>(
     }
 }
 
+/// A definition, from its keyword on. What it uses is sound.
+fn definition<'a>(
+    tokens: &mut Tokens<'a>,
+    reader: &Reader<'a>,
+    notes: &[Placed],
+) -> Result<Made<'a>, IdlFault>
+    requires { all_valid (state reader.now).types ≡ true }
+    ensures read { Reads made (spec.definition_by (state reader.now) notes.now (keyword_at tokens.old) tokens.old) result tokens.new }
+    ensures sound { IfOk result (λ m. has_sound_parts (tree m.ty) ≡ true) }
+{
+    let keyword = tokens.keyword();
+    definition_by(tokens, reader, notes, keyword)
+}
+
 /// The rule that a type breaks, and where.
 fn fault_of(found: &Made<'_>) -> Option<TypeFault>
-    ensures { fault_view result ≡ spec.fault_of (made found.now) }
+    requires { has_sound_parts (tree found.now.ty) ≡ true }
+    ensures fault { fault_view result ≡ spec.fault_of (made found.now) }
+    ensures valid { IfNone result (type_fault (tree found.now.ty) ≡ None) }
 {
     if !found.fits {
         return Some(TypeFault {
@@ -63,12 +83,16 @@ fn fault_of(found: &Made<'_>) -> Option<TypeFault>
             node: Path::empty(),
         });
     }
-    check_type(&found.ty).err()
+    check_definition(&found.ty).err()
 }
 
 /// Declares a type, where it is valid.
+#[tactic(auto, using(crate::proofs::SoundParts::valid_more))]
 fn declare<'a>(reader: &mut Reader<'a>, found: Made<'a>) -> Result<(), IdlFault>
-    ensures { Changes (spec.valid_or (state reader.old) (made found.entry) (spec.fault_of (made found.entry))) result (state reader.new) }
+    requires sound { has_sound_parts (tree found.ty) ≡ true }
+    requires valid { all_valid (state reader.old).types ≡ true }
+    ensures valid { OnOk result (all_valid (state reader.new).types ≡ true) }
+    ensures changes { Changes (spec.valid_or (state reader.old) (made found.entry) (spec.fault_of (made found.entry))) result (state reader.new) }
 {
     if let Some(fault) = fault_of(&found) {
         return Err(IdlFault::Invalid {
@@ -94,17 +118,20 @@ fn typed<'a>(
     reader: &mut Reader<'a>,
     notes: &[Placed],
 ) -> Result<(), IdlFault>
-    ensures { Leads (spec.typed (state reader.old) notes.now tokens.old) result (state reader.new) tokens.new }
+    requires { all_valid (state reader.old).types ≡ true }
+    ensures valid { OnOk result (all_valid (state reader.new).types ≡ true) }
+    ensures leads { Leads (spec.typed (state reader.old) notes.now tokens.old) result (state reader.new) tokens.new }
 {
-    let keyword = tokens.keyword();
-    let found = definition_by(tokens, reader, notes, keyword)?;
+    let found = definition(tokens, reader, notes)?;
     declare(reader, found)
 }
 
 /// Opens a module's scope.
 #[tactic(auto, unfolding(crate::specs::Whole::module_def))]
 fn module_def<'a>(tokens: &mut Tokens<'a>, reader: &mut Reader<'a>) -> Result<(), IdlFault>
-    ensures { Leads (spec.module_def (state reader.old) tokens.old) result (state reader.new) tokens.new }
+    requires { all_valid (state reader.old).types ≡ true }
+    ensures valid { OnOk result (all_valid (state reader.new).types ≡ true) }
+    ensures leads { Leads (spec.module_def (state reader.old) tokens.old) result (state reader.new) tokens.new }
 {
     tokens.take();
     let at = tokens.place();
@@ -131,7 +158,9 @@ fn definition_or_module<'a>(
     notes: &[Placed],
     keyword: Option<Keyword>,
 ) -> Result<(), IdlFault>
-    ensures { Leads (spec.definition_or_module (state reader.old) notes.now keyword tokens.old) result (state reader.new) tokens.new }
+    requires { all_valid (state reader.old).types ≡ true }
+    ensures valid { OnOk result (all_valid (state reader.new).types ≡ true) }
+    ensures leads { Leads (spec.definition_or_module (state reader.old) notes.now keyword tokens.old) result (state reader.new) tokens.new }
 {
     match Begins::of(keyword) {
         Begins::Module => module_def(tokens, reader),
@@ -147,7 +176,9 @@ fn definition_or_module<'a>(
 /// The end of a module.
 #[tactic(auto, unfolding(crate::specs::Whole::closed))]
 fn closed<'a>(tokens: &mut Tokens<'a>, reader: &mut Reader<'a>) -> Result<(), IdlFault>
-    ensures { Leads (spec.closed (state reader.old) tokens.old) result (state reader.new) tokens.new }
+    requires { all_valid (state reader.old).types ≡ true }
+    ensures valid { OnOk result (all_valid (state reader.new).types ≡ true) }
+    ensures leads { Leads (spec.closed (state reader.old) tokens.old) result (state reader.new) tokens.new }
 {
     tokens.take();
     tokens.want(b";")?;
@@ -165,7 +196,9 @@ fn may_close(reader: &Reader<'_>) -> bool
 /// A definition, the opening of a module or a module's end.
 #[tactic(auto, unfolding(crate::specs::Whole::item))]
 fn item<'a>(tokens: &mut Tokens<'a>, reader: &mut Reader<'a>) -> Result<(), IdlFault>
-    ensures { Leads (spec.item (state reader.old) tokens.old) result (state reader.new) tokens.new }
+    requires { all_valid (state reader.old).types ≡ true }
+    ensures valid { OnOk result (all_valid (state reader.new).types ≡ true) }
+    ensures leads { Leads (spec.item (state reader.old) tokens.old) result (state reader.new) tokens.new }
 {
     if may_close(reader) && tokens.sees(b"}") {
         return closed(tokens, reader);
@@ -193,6 +226,7 @@ fn at_end(tokens: &Tokens<'_>, reader: &Reader<'_>) -> bool
 
 #[tactic(auto, using(crate::proofs::TextLoops::items_go, crate::proofs::TextLoops::items_end))]
 fn items<'a>(tokens: &mut Tokens<'a>, reader: &mut Reader<'a>, turns: usize) -> Result<(), IdlFault>
+    requires { all_valid (state reader.old).types ≡ true }
     ensures { Leads (spec.items_from turns (state reader.old) tokens.old) result (state reader.new) tokens.new }
 {
     for _turn in 0..turns {
