@@ -1,6 +1,6 @@
 -- One or more parts of a definition, each read by a step from what was gathered before it (this profile's own). The number bounds the turns:
 -- each part has an octet at least.
-use Rattle.std.specs.Prelude.{◌≡◌, ◌≢◌, ℕ, zero, suc, if◌then◌else◌, Option, Some, None, Result, Ok, Err, codes}
+use Rattle.std.specs.Prelude.{◌≡◌, ◌≢◌, ℕ, zero, suc, if◌then◌else◌, Result, Ok, Err, codes}
 use Rattle.idl_input.specs.declared.faults.IdlFault.{IdlFault}
 use Rattle.idl_input.specs.declared.faults.IdlFault.TheVariants as fault
 use Rattle.idl_input.specs.Input.{Input, Outcome, Parser, ◌>>=◌, pure, syntax, eat, turns}

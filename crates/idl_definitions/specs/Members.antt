@@ -15,6 +15,7 @@ use Rattle.idl_input.specs.declared.faults.IdlFault.TheVariants as fault
 use Rattle.idl_input.specs.Input.{Parser, ◌>>=◌, ◌>>◌, pure, refuse, here, eat, want, name, bound, notes_at, turns}
 use Rattle.idl_types.specs.State.{State}
 use Rattle.idl_types.specs.Types.{a_type}
+use Rattle.idl_types.specs.Definitions.{ListedMembers}
 use Rattle.idl_definitions.specs.Lists.{with_commas}
 
 unfoldable pub dims_from : ℕ → List ℕ → Parser (List ℕ)
@@ -49,9 +50,6 @@ new_name names = do
 
 -- ---- members
 
-abbrev pub ListedMembers : Type 0
-ListedMembers = List (MemberHead × Tree)
-
 abbrev pub gives_id : List Placed → Bool
 gives_id ns = has_setting Setting.Id ns || has_setting Setting.HashId ns
 
@@ -67,7 +65,7 @@ id_for at ns hashed following s =
 abbrev pub a_member : List Placed → ℕ → Text → MemberHead
 a_member ns id s = with_notes ns (record { id = id; name = name_of.Full s; tc = Try.Discard; optional = false; must_understand = false; key = false })
 
--- with its id
+-- a member or case of this type, with its id
 abbrev pub formed : ℕ → Text → List Placed → Bool → ℕ → Tree → Parser (MemberHead × Tree)
 formed at s ns hashed following whole = do
   id ← id_for at ns hashed following s

@@ -1,9 +1,9 @@
 -- Structures and typedefs (DDS-XTypes 1.3, 7.3.1; a base is single inheritance, 7.2.2.4.4).
-use Rattle.std.specs.Prelude.{ℕ, ◌+◌, Bool, true, false, ◌||◌, if◌then◌else◌, min, List, [], ◌∷◌, ◌++◌, fold, length, Some, Ok, Err, codes, is_some}
+use Rattle.std.specs.Prelude.{ℕ, ◌+◌, Bool, true, false, if◌then◌else◌, List, [], ◌∷◌, ◌++◌, fold, Some, Ok, Err, codes, is_some}
 use Rattle.xt_shapes.specs.declared.leaves.Ext.{Ext}
 use Rattle.xt_shapes.specs.Kinds.{same_ext}
 use Rattle.type_trees.specs.declared.types.Base.{Base}
-use Rattle.type_trees.specs.Trees.{StructHead, Tree, prim, str, enumeration, bitmask, sequence, array, map_of, structure, union, alias, Members, no_members, member}
+use Rattle.type_trees.specs.Trees.{Tree, prim, str, enumeration, bitmask, sequence, array, map_of, structure, union, alias}
 use Rattle.type_trees.specs.View.{members_of}
 use Rattle.idl_tokens.specs.Classes.{Text}
 use Rattle.idl_tokens.specs.names.Scopes.{meaning}
@@ -12,9 +12,10 @@ use Rattle.idl_input.specs.Input.{Parser, ◌>>=◌, ◌>>◌, pure, here, place
 use Rattle.idl_types.specs.State.{State}
 use Rattle.idl_types.specs.Names.{innermost, full_name, type_by_name}
 use Rattle.idl_types.specs.Types.{a_type}
+use Rattle.idl_types.specs.Definitions.{ListedMembers, listed, as_base}
 use Rattle.idl_definitions.specs.declared.settings.Settings.{Settings}
 use Rattle.idl_definitions.specs.Lists.{to_brace}
-use Rattle.idl_definitions.specs.Members.{ListedMembers, Listed, once, dimensioned, members_of_type}
+use Rattle.idl_definitions.specs.Members.{Listed, once, dimensioned, members_of_type}
 
 -- a type with its name, which stands at a place, and its full name; and whether what it names as base is of the right form
 pub record Made : Type 0 where
@@ -49,17 +50,6 @@ pub record Heritage : Type 0 where
 
 abbrev pub no_heritage : Bool → Heritage
 no_heritage fits = record { fits = fits; bases = []; members = [] }
-
-abbrev pub listed : Members → ListedMembers
-listed no_members = []
-listed (member head t ms) = (head, t) ∷ listed ms
-
--- A declared type has at most 65,536 nodes, so the count is that of all its members.
-abbrev pub count_of : ListedMembers → ℕ
-count_of ms = min (length ms) 4294967295
-
-abbrev pub as_base : StructHead → ListedMembers → Base
-as_base head ms = record { name = head.name; nested = head.nested; hashed_ids = head.hashed_ids; count = count_of ms }
 
 abbrev pub heritage : Ext → Tree → Heritage
 heritage ext (structure head ms) = record { fits = same_ext ext head.ext; bases = head.bases ++ as_base head (listed ms) ∷ []; members = listed ms }

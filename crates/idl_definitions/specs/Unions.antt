@@ -5,14 +5,14 @@ use Rattle.xt_shapes.specs.declared.leaves.Primitive.TheVariants.{Boolean, Char8
 use Rattle.type_trees.specs.declared.types.Name.{Name}
 use Rattle.type_trees.specs.declared.types.Name.TheVariants as name_of
 use Rattle.type_trees.specs.declared.types.Literal.{Literal}
-use Rattle.type_trees.specs.Trees.{MemberHead, CaseHead, UnionHead, Tree, prim, enumeration, union, alias}
+use Rattle.type_trees.specs.Trees.{MemberHead, CaseHead, Tree, prim, enumeration, union, alias}
 use Rattle.type_trees.specs.View.{cases_of}
 use Rattle.xt_annotations.specs.declared.places.Site.{Site}
 use Rattle.idl_tokens.specs.declared.tokens.TokenKind.{TokenKind}
 use Rattle.idl_tokens.specs.Classes.{Text}
 use Rattle.idl_tokens.specs.Numerals.{signed_32}
 use Rattle.idl_input.specs.declared.faults.IdlFault.TheVariants as fault
-use Rattle.idl_input.specs.Input.{Input, Parser, ◌>>=◌, ◌>>◌, pure, syntax, refuse, here, eat, want, take_token, sees, sees_number, spelling, kind, next, notes_at, turns}
+use Rattle.idl_input.specs.Input.{Parser, ◌>>=◌, ◌>>◌, pure, syntax, refuse, here, eat, want, take_token, sees, sees_number, spelling, kind, next, notes_at, turns}
 use Rattle.idl_types.specs.State.{State}
 use Rattle.idl_types.specs.Names.{scoped}
 use Rattle.idl_types.specs.Types.{a_type}

@@ -5,8 +5,7 @@ ghost use Rattle.idl_definitions.specs.Structures as spec;
 ghost use Rattle.idl_definitions.specs.Views as view;
 
 use idl_input::{IdlFault, Tokens};
-use idl_types::Reader;
-use type_trees::XType;
+use idl_types::{Definition, Reader};
 use xt_lists::Text;
 
 /// A type with its name, which stands at a place, and its full name; and whether what it names as base is of the right form.
@@ -15,7 +14,7 @@ pub struct Made<'a> {
     pub at: u32,
     pub name: &'a [u8],
     pub full: Text,
-    pub ty: XType,
+    pub definition: Definition,
     pub fits: bool,
 }
 
@@ -43,15 +42,15 @@ pub(crate) fn new_type<'a>(
     Ok(NewName { at, name, full })
 }
 
-pub(crate) fn defined<'a>(name: NewName<'a>, ty: XType, fits: bool) -> Made<'a>
-    ensures { result ≡ record { at = name.entry.at; name = name.entry.name; full = name.entry.full; ty = ty; fits = fits } }
+pub(crate) fn defined<'a>(name: NewName<'a>, definition: Definition, fits: bool) -> Made<'a>
+    ensures { result ≡ record { at = name.entry.at; name = name.entry.name; full = name.entry.full; definition = definition; fits = fits } }
 {
     let NewName { at, name, full } = name;
     Made {
         at,
         name,
         full,
-        ty,
+        definition,
         fits,
     }
 }

@@ -1,21 +1,22 @@
 //! Enumerations and bitmasks: definitions whose parts have numbers.
-ghost use Rattle.std.specs.Prelude.{◌≡◌, false, IfOk, OnOk};
-ghost use Rattle.type_trees.specs.View.{tree};
+ghost use Rattle.std.specs.Prelude.{◌≡◌, false, true, IfOk, OnOk};
 ghost use Rattle.idl_tokens.specs.names.Sets.{has as taken};
 ghost use Rattle.idl_input.specs.Input.{Reads};
+ghost use Rattle.idl_types.specs.State.{Declared};
+ghost use Rattle.idl_types.specs.Definitions.{defined, fits};
 ghost use Rattle.idl_types.specs.Views.{state};
 ghost use Rattle.idl_definitions.specs.Lists.{Goes, with_commas};
 ghost use Rattle.idl_definitions.specs.Numbered as spec;
 ghost use Rattle.idl_definitions.specs.Views as view;
 
-use crate::made::{Made, defined, new_type};
+use crate::made::{self, Made, new_type};
 use crate::members::new_name;
 use crate::settings::{Settings, settings_of};
 use idl_input::{IdlFault, Tokens};
 use idl_tokens::names::NameSet;
-use idl_types::{Reader, boxed};
+use idl_types::{Definition, Reader};
 use std::alloc::Global;
-use type_trees::{EnumType, Flag, Literal, MaskType, Name, XType};
+use type_trees::{EnumType, Flag, Literal, MaskType, Name};
 use type_values::copy_text;
 use xt_annotations::Site;
 use xt_lists::{OutOfMemory, Row, Text};
@@ -49,8 +50,9 @@ trait NumberedPart: Drop {
         full: &Text,
         set: Settings,
         parts: Row<Self>,
-    ) -> Result<XType, OutOfMemory>
-        ensures { IfOk result (λ t. tree t ≡ numbering.whole full.now set parts) };
+    ) -> Result<Definition, OutOfMemory>
+        ensures tree { (ts : Declared) → IfOk result (λ d. defined ts full.now d ≡ numbering.whole full.now set parts) }
+        ensures fits { (ts : Declared) → IfOk result (λ d. fits ts d ≡ true) };
 }
 
 /// Parts so far, their names, and the number that the next one has by itself.
@@ -138,7 +140,8 @@ fn numbered_def<'a, P: NumberedPart>(
     reader: &Reader<'a>,
     set: Settings,
 ) -> Result<Made<'a>, IdlFault>
-    ensures { Reads view.made (spec.numbered_def P.numbering (state reader.now) set tokens.old) result tokens.new }
+    ensures read { Reads (view.made (state reader.now).types) (spec.numbered_def P.numbering (state reader.now) set tokens.old) result tokens.new }
+    ensures fits { IfOk result (λ m. fits (state reader.now).types m.definition ≡ true) }
 {
     let alloc = reader.alloc();
     tokens.take();
@@ -147,8 +150,8 @@ fn numbered_def<'a, P: NumberedPart>(
     let numbered = parts::<P>(tokens, alloc)?;
     tokens.want(b"}")?;
     tokens.want(b";")?;
-    let ty = P::whole(alloc, &name.full, set, numbered.parts)?;
-    Ok(defined(name, ty, true))
+    let definition = P::whole(alloc, &name.full, set, numbered.parts)?;
+    Ok(made::defined(name, definition, true))
 }
 
 impl NumberedPart for Literal {
@@ -184,22 +187,21 @@ impl NumberedPart for Literal {
         }
     }
 
-    #[tactic(auto, using(type_trees::proofs::Views::tree_rules))]
     fn whole(
         alloc: Global,
         full: &Text,
         set: Settings,
         parts: Row<Literal>,
-    ) -> Result<XType, OutOfMemory>
-        ensures { IfOk result (λ t. tree t ≡ spec.literals.whole full.now set parts) }
+    ) -> Result<Definition, OutOfMemory>
+        ensures tree { (ts : Declared) → IfOk result (λ d. defined ts full.now d ≡ spec.literals.whole full.now set parts) }
+        ensures fits { (ts : Declared) → IfOk result (λ d. fits ts d ≡ true) }
     {
-        let kind = EnumType {
+        Ok(Definition::Enum(EnumType {
             name: Some(copy_text(alloc, full)?),
             ext: set.ext,
             bits: set.bits,
             literals: parts,
-        };
-        Ok(XType::Enum(boxed(alloc, kind)?))
+        }))
     }
 }
 
@@ -235,21 +237,20 @@ impl NumberedPart for Flag {
         }
     }
 
-    #[tactic(auto, using(type_trees::proofs::Views::tree_rules))]
     fn whole(
         alloc: Global,
         full: &Text,
         set: Settings,
         parts: Row<Flag>,
-    ) -> Result<XType, OutOfMemory>
-        ensures { IfOk result (λ t. tree t ≡ spec.flags.whole full.now set parts) }
+    ) -> Result<Definition, OutOfMemory>
+        ensures tree { (ts : Declared) → IfOk result (λ d. defined ts full.now d ≡ spec.flags.whole full.now set parts) }
+        ensures fits { (ts : Declared) → IfOk result (λ d. fits ts d ≡ true) }
     {
-        let kind = MaskType {
+        Ok(Definition::Mask(MaskType {
             name: Some(copy_text(alloc, full)?),
             bits: set.bits,
             flags: parts,
-        };
-        Ok(XType::Mask(boxed(alloc, kind)?))
+        }))
     }
 }
 
@@ -259,7 +260,8 @@ pub fn enum_def<'a>(
     reader: &Reader<'a>,
     set: Settings,
 ) -> Result<Made<'a>, IdlFault>
-    ensures { Reads view.made (spec.enum_def (state reader.now) set tokens.old) result tokens.new }
+    ensures read { Reads (view.made (state reader.now).types) (spec.enum_def (state reader.now) set tokens.old) result tokens.new }
+    ensures fits { IfOk result (λ m. fits (state reader.now).types m.definition ≡ true) }
 {
     numbered_def::<Literal>(tokens, reader, set)
 }
@@ -270,7 +272,8 @@ pub fn bitmask_def<'a>(
     reader: &Reader<'a>,
     set: Settings,
 ) -> Result<Made<'a>, IdlFault>
-    ensures { Reads view.made (spec.bitmask_def (state reader.now) set tokens.old) result tokens.new }
+    ensures read { Reads (view.made (state reader.now).types) (spec.bitmask_def (state reader.now) set tokens.old) result tokens.new }
+    ensures fits { IfOk result (λ m. fits (state reader.now).types m.definition ≡ true) }
 {
     numbered_def::<Flag>(tokens, reader, set)
 }

@@ -1,9 +1,10 @@
-ghost use Rattle.std.specs.Prelude.{◌≡◌, ◌∷◌, [], map, length, IfOk, fold, ◌+◌};
+ghost use Rattle.std.specs.Prelude.{◌≡◌, ◌++◌, map, true, None, IfOk};
 ghost use Rattle.xt_shapes.specs.Kinds as kinds;
-ghost use Rattle.type_trees.specs.View.{tree, member_tree, struct_tree};
 ghost use Rattle.idl_input.specs.Input.{Reads};
+ghost use Rattle.idl_types.specs.Uses.{tree_at, whole};
+ghost use Rattle.idl_types.specs.Definitions.{base_fits, declared, fits, member_whole, members_before, members_on};
 ghost use Rattle.idl_types.specs.Views.{state};
-ghost use Rattle.idl_definitions.specs.Lists.{to_brace};
+ghost use Rattle.idl_definitions.specs.Lists.{Goes, to_brace};
 ghost use Rattle.idl_definitions.specs.Members.{members_of_type as members_step};
 ghost use Rattle.idl_definitions.specs.Structures as spec;
 ghost use Rattle.idl_definitions.specs.Views as view;
@@ -13,19 +14,19 @@ use crate::members::{Listed, dimensioned, members_of_type};
 use crate::settings::Settings;
 use idl_input::{IdlFault, Tokens};
 use idl_tokens::names::NameSet;
-use idl_types::{Reader, a_type, boxed, type_by_name};
-use std::alloc::Global;
-use type_trees::{AliasType, Base, Member, StructType, XType};
-use type_values::copy_text;
-use xt_lists::{OutOfMemory, Row, Text};
+use idl_types::{
+    Declaration, Definition, Reader, StructDefinition, Used, UsedMember, a_type, declaration_at,
+    type_by_name,
+};
+use xt_lists::Row;
 use xt_shapes::Ext;
 
-/// What a structure has from its base, and whether that is a structure of the same extensibility.
-#[derive(Drop)]
+/// The place of a structure's base, if it has one, whether that is a structure of the same extensibility, and the id after its last member's.
+#[derive(Debug, Clone, Copy)]
 pub(crate) struct Heritage {
     pub(crate) fits: bool,
-    pub(crate) bases: Row<Base>,
-    pub(crate) members: Row<Member>,
+    pub(crate) base: Option<usize>,
+    pub(crate) following: u64,
 }
 
 fn same_ext(left: Ext, right: Ext) -> bool
@@ -34,64 +35,66 @@ fn same_ext(left: Ext, right: Ext) -> bool
     left == right
 }
 
-fn no_heritage(alloc: Global, fits: bool) -> Heritage
-    ensures { view.heritage result ≡ spec.no_heritage fits }
+fn no_heritage(fits: bool) -> Heritage
+    ensures { result ≡ record { fits = fits; base = None; following = 0 } }
 {
     Heritage {
         fits,
-        bases: Row::new(alloc),
-        members: Row::new(alloc),
+        base: None,
+        following: 0,
     }
 }
 
-fn count_of(members: &[Member]) -> u32
-    ensures { result ≡ spec.count_of (map member_tree members.now) }
+/// The id after the last member's of the structure at a place; 0 where there is none.
+fn following_at(types: &[Declaration], at: usize) -> u64
+    ensures { result ≡ spec.following (members_on (tree_at (declared types.now) at)) }
 {
-    members.len().min(4_294_967_295) as u32
+    let Some(declaration) = declaration_at(types, at) else {
+        return 0;
+    };
+    let Definition::Struct(kind) = &declaration.definition else {
+        return 0;
+    };
+    match kind.members.as_slice() {
+        [.., last] => u64::from(last.id) + 1,
+        [] => match kind.base {
+            Some(base) => following_at(&types[..at], base),
+            None => 0,
+        },
+    }
 }
 
-#[tactic(auto, using(type_trees::proofs::Views::tree_rules, crate::proofs::MakeSteps::listed_members))]
-fn of_structure(ext: Ext, structure: StructType) -> Result<Heritage, OutOfMemory>
-    ensures { IfOk result (λ h. view.heritage h ≡ spec.heritage ext (struct_tree structure)) }
+/// What a structure has from the type at a place.
+fn heritage_at(types: &[Declaration], ext: Ext, at: usize) -> Heritage
+    ensures value { view.heritage (declared types.now) result ≡ spec.heritage ext (tree_at (declared types.now) at) }
+    ensures fits { result.fits ≡ true → base_fits (declared types.now) ext result.base ≡ true }
+    ensures following { result.following ≡ spec.following (members_before (declared types.now) result.base) }
 {
-    let StructType {
-        name,
-        ext: own,
-        nested,
-        hashed_ids,
-        mut bases,
-        members,
-    } = structure;
-    let fits = same_ext(ext, own);
-    let count = count_of(members.as_slice());
-    bases.push(Base {
-        name,
-        nested,
-        hashed_ids,
-        count,
-    })?;
-    Ok(Heritage {
-        fits,
-        bases,
-        members,
-    })
+    let Some(declaration) = declaration_at(types, at) else {
+        return no_heritage(false);
+    };
+    match &declaration.definition {
+        Definition::Struct(kind) => Heritage {
+            fits: same_ext(ext, kind.ext),
+            base: Some(at),
+            following: following_at(types, at),
+        },
+        Definition::Enum(_) | Definition::Mask(_) | Definition::Union(_) | Definition::Alias(_) => {
+            no_heritage(false)
+        }
+    }
 }
 
-#[tactic(auto, using(type_trees::proofs::Views::tree_rules))]
-fn heritage_of(alloc: Global, ext: Ext, ty: XType) -> Result<Heritage, OutOfMemory>
-    ensures { IfOk result (λ h. view.heritage h ≡ spec.heritage ext (tree ty)) }
+#[tactic(auto, using(idl_types::proofs::Wholes::whole_rules))]
+fn heritage_of(reader: &Reader<'_>, ext: Ext, used: &Used) -> Heritage
+    ensures value { view.heritage (state reader.now).types result ≡ spec.heritage ext (whole (state reader.now).types used.now) }
+    ensures fits { result.fits ≡ true → base_fits (state reader.now).types ext result.base ≡ true }
+    ensures following { result.following ≡ spec.following (members_before (state reader.now).types result.base) }
 {
-    match ty {
-        XType::Struct(kind) => of_structure(ext, Box::into_inner(kind)),
-        XType::Prim(_)
-        | XType::Str(_)
-        | XType::Enum(_)
-        | XType::Mask(_)
-        | XType::Seq(_)
-        | XType::Array(_)
-        | XType::Map(_)
-        | XType::Union(_)
-        | XType::Alias(_) => Ok(no_heritage(alloc, false)),
+    match used {
+        Used::Declared(at) => heritage_at(reader.types(), ext, *at),
+        Used::Prim(_) | Used::Str(_) | Used::Seq { .. } | Used::Array { .. } | Used::Map { .. } =>
+            no_heritage(false),
     }
 }
 
@@ -102,24 +105,15 @@ fn base_clause<'a>(
     reader: &Reader<'a>,
     ext: Ext,
 ) -> Result<Heritage, IdlFault>
-    ensures { Reads view.heritage (spec.base_clause (state reader.now) ext tokens.old) result tokens.new }
+    ensures read { Reads (view.heritage (state reader.now).types) (spec.base_clause (state reader.now) ext tokens.old) result tokens.new }
+    ensures fits { IfOk result (λ h. h.fits ≡ true → base_fits (state reader.now).types ext h.base ≡ true) }
+    ensures following { IfOk result (λ h. h.following ≡ spec.following (members_before (state reader.now).types h.base)) }
 {
     if !tokens.eat(b":") {
-        return Ok(no_heritage(reader.alloc(), true));
+        return Ok(no_heritage(true));
     }
     let base = type_by_name(tokens, reader)?;
-    Ok(heritage_of(reader.alloc(), ext, base)?)
-}
-
-#[tactic(auto, using(type_trees::proofs::Views::tree_rules))]
-fn following(members: &[Member]) -> u64
-    ensures { result ≡ spec.following (map member_tree members.now) }
-{
-    let mut next = 0;
-    for member in members {
-        next = u64::from(member.id) + 1;
-    }
-    next
+    Ok(heritage_of(reader, ext, &base))
 }
 
 #[tactic(auto, unfolding(crate::specs::Structures::in_profile))]
@@ -132,51 +126,53 @@ fn in_profile(tokens: &Tokens<'_>) -> Result<(), IdlFault>
     Ok(())
 }
 
-/// Members behind those of a base, up to `}`.
+/// No own members behind those of a base.
+#[tactic(auto, using(crate::proofs::MakeSteps::no_own))]
+fn no_members<'a>(reader: &Reader<'a>, base: Option<usize>, following: u64) -> Listed<'a>
+    requires { following ≡ spec.following (members_before (state reader.now).types base) }
+    ensures { let ts = (state reader.now).types in view.listed ts (members_before ts base) result ≡ spec.inherited (members_before ts base) }
+{
+    Listed {
+        members: Row::new(reader.alloc()),
+        names: NameSet::new(reader.alloc()),
+        following,
+    }
+}
+
+/// Further members, up to `}`.
 #[tactic(auto, using(crate::proofs::DefinitionLoops::braced_go, crate::proofs::DefinitionLoops::braced_end))]
-fn members<'a>(
+fn further_members<'a>(
     tokens: &mut Tokens<'a>,
     reader: &Reader<'a>,
     hashed: bool,
-    inherited: Row<Member>,
-) -> Result<Row<Member>, IdlFault>
-    ensures { Reads (map member_tree) (spec.members (state reader.now) hashed (map member_tree inherited) tokens.old) result tokens.new }
+    base: Option<usize>,
+    listed: &mut Listed<'a>,
+) -> Result<(), IdlFault>
+    ensures { let ts = (state reader.now).types in Goes (view.listed ts (members_before ts base)) (to_brace (members_step (state reader.now) hashed) (view.listed ts (members_before ts base) listed.old) tokens.old) result listed.new tokens.new }
 {
-    let following = following(inherited.as_slice());
-    let mut listed = Listed {
-        members: inherited,
-        names: NameSet::new(reader.alloc()),
-        following,
-    };
     for _turn in 0..tokens.left() {
-        members_of_type(tokens, reader, hashed, &mut listed)?;
+        members_of_type(tokens, reader, hashed, base, listed)?;
         if tokens.eat(b"}") {
-            return Ok(listed.members);
+            return Ok(());
         }
     }
     Err(tokens.syntax())
 }
 
-#[tactic(auto, using(type_trees::proofs::Views::tree_rules))]
-fn structure(
-    alloc: Global,
-    full: &Text,
-    set: Settings,
-    bases: Row<Base>,
-    members: Row<Member>,
-) -> Result<XType, OutOfMemory>
-    ensures { IfOk result (λ t. tree t ≡ spec.structure_of full.now set bases (map member_tree members)) }
+/// Members behind those of a base, up to `}`.
+fn members<'a>(
+    tokens: &mut Tokens<'a>,
+    reader: &Reader<'a>,
+    hashed: bool,
+    base: Option<usize>,
+    following: u64,
+) -> Result<Row<UsedMember>, IdlFault>
+    requires { following ≡ spec.following (members_before (state reader.now).types base) }
+    ensures { let ts = (state reader.now).types in Reads (λ own. members_before ts base ++ map (member_whole ts) own) (spec.members (state reader.now) hashed (members_before ts base) tokens.old) result tokens.new }
 {
-    let name = Some(copy_text(alloc, full)?);
-    let kind = StructType {
-        name,
-        ext: set.ext,
-        nested: set.nested,
-        hashed_ids: set.hashed,
-        bases,
-        members,
-    };
-    Ok(XType::Struct(boxed(alloc, kind)?))
+    let mut listed = no_members(reader, base, following);
+    further_members(tokens, reader, hashed, base, &mut listed)?;
+    Ok(listed.members)
 }
 
 /// A structure, from its keyword on.
@@ -186,42 +182,42 @@ pub fn struct_def<'a>(
     reader: &Reader<'a>,
     set: Settings,
 ) -> Result<Made<'a>, IdlFault>
-    ensures { Reads view.made (spec.struct_def (state reader.now) set tokens.old) result tokens.new }
+    ensures read { Reads (view.made (state reader.now).types) (spec.struct_def (state reader.now) set tokens.old) result tokens.new }
+    ensures fits { IfOk result (λ m. m.fits ≡ true → fits (state reader.now).types m.definition ≡ true) }
 {
     tokens.take();
     let name = new_type(tokens, reader)?;
     in_profile(tokens)?;
     let heritage = base_clause(tokens, reader, set.ext)?;
     tokens.want(b"{")?;
-    let Heritage {
-        fits,
-        bases,
-        members: inherited,
-    } = heritage;
-    let members = members(tokens, reader, set.hashed, inherited)?;
+    let members = members(
+        tokens,
+        reader,
+        set.hashed,
+        heritage.base,
+        heritage.following,
+    )?;
     tokens.want(b";")?;
-    let ty = structure(reader.alloc(), &name.full, set, bases, members)?;
-    Ok(defined(name, ty, fits))
-}
-
-#[tactic(auto, using(type_trees::proofs::Views::tree_rules))]
-fn alias_of(alloc: Global, full: &Text, ty: XType) -> Result<XType, OutOfMemory>
-    ensures { IfOk result (λ t. tree t ≡ spec.alias_of full.now (tree ty)) }
-{
-    let name = Some(copy_text(alloc, full)?);
-    Ok(XType::Alias(boxed(alloc, AliasType { name, ty })?))
+    let definition = Definition::Struct(StructDefinition {
+        ext: set.ext,
+        nested: set.nested,
+        hashed_ids: set.hashed,
+        base: heritage.base,
+        members,
+    });
+    Ok(defined(name, definition, heritage.fits))
 }
 
 /// A typedef, from its keyword on.
 #[tactic(auto, unfolding(crate::specs::Structures::typedef_def))]
 pub fn typedef_def<'a>(tokens: &mut Tokens<'a>, reader: &Reader<'a>) -> Result<Made<'a>, IdlFault>
-    ensures { Reads view.made (spec.typedef_def (state reader.now) tokens.old) result tokens.new }
+    ensures read { Reads (view.made (state reader.now).types) (spec.typedef_def (state reader.now) tokens.old) result tokens.new }
+    ensures fits { IfOk result (λ m. fits (state reader.now).types m.definition ≡ true) }
 {
     tokens.take();
-    let ty = a_type(tokens, reader)?;
+    let used = a_type(tokens, reader)?;
     let name = new_type(tokens, reader)?;
-    let whole = dimensioned(tokens, reader.alloc(), ty)?;
+    let whole = dimensioned(tokens, reader, used)?;
     tokens.want(b";")?;
-    let ty = alias_of(reader.alloc(), &name.full, whole)?;
-    Ok(defined(name, ty, true))
+    Ok(defined(name, Definition::Alias(whole), true))
 }

@@ -1,7 +1,8 @@
-ghost use Rattle.std.specs.Prelude.{◌≡◌, [], map, pos, slice_index, false, IfOk, OnOk};
-ghost use Rattle.type_trees.specs.View.{tree, case_tree, member_tree};
+ghost use Rattle.std.specs.Prelude.{◌≡◌, [], map, pos, slice_index, false, true, IfOk, OnOk};
 ghost use Rattle.idl_tokens.specs.names.Sets.{has as taken};
 ghost use Rattle.idl_input.specs.Input.{Reads};
+ghost use Rattle.idl_types.specs.Uses.{tree_at, whole};
+ghost use Rattle.idl_types.specs.Definitions.{declared, fits, member_whole, case_whole};
 ghost use Rattle.idl_types.specs.Views.{state};
 ghost use Rattle.idl_definitions.specs.Lists.{Goes, to_brace};
 ghost use Rattle.idl_definitions.specs.Unions as spec;
@@ -14,31 +15,14 @@ use crate::settings::{Settings, settings_of};
 use idl_input::{IdlFault, Tokens};
 use idl_tokens::names::NameSet;
 use idl_tokens::{TokenKind, signed_32};
-use idl_types::{Reader, a_type, boxed, scoped_name};
+use idl_types::{
+    Declaration, Definition, Reader, UnionDefinition, Used, UsedCase, UsedMember, a_type,
+    declaration_at, scoped_name,
+};
 use std::alloc::Global;
-use type_trees::{Case, Member, UnionType, XType};
-use type_values::copy_text;
 use xt_annotations::Site;
 use xt_lists::{OutOfMemory, Row, Text};
 use xt_shapes::Prim;
-
-#[tactic(auto, using(type_trees::proofs::Views::tree_rules))]
-fn behind(ty: &XType) -> &XType
-    ensures { tree result.now ≡ spec.behind (tree ty.now) }
-{
-    match ty {
-        XType::Alias(kind) => behind(&kind.ty),
-        XType::Prim(_)
-        | XType::Str(_)
-        | XType::Enum(_)
-        | XType::Mask(_)
-        | XType::Seq(_)
-        | XType::Array(_)
-        | XType::Map(_)
-        | XType::Struct(_)
-        | XType::Union(_) => ty,
-    }
-}
 
 #[tactic(auto, unfolding(crate::specs::Unions::truth_label))]
 fn truth_label(tokens: &mut Tokens<'_>) -> Result<i32, IdlFault>
@@ -117,18 +101,43 @@ pub(crate) enum LabelForm<'d> {
     Literal(LiteralsByName<'d>),
 }
 
-#[tactic(auto, using(type_trees::proofs::Views::tree_rules), unfolding(crate::specs::Unions::label))]
-fn label_form<'d>(alloc: Global, disc: &'d XType) -> Result<LabelForm<'d>, OutOfMemory>
-    ensures { IfOk result (λ form. spec.label (view.form form) ≡ spec.label (tree disc.now)) }
+/// How labels are written whose discriminator has the type that is declared at a place.
+#[cycle(forms)]
+#[tactic(auto, unfolding(crate::specs::Unions::label))]
+fn form_at<'d>(
+    alloc: Global,
+    types: &'d [Declaration],
+    at: usize,
+) -> Result<LabelForm<'d>, OutOfMemory>
+    ensures { IfOk result (λ form. spec.label (view.form form) ≡ spec.label (tree_at (declared types.now) at)) }
 {
-    match behind(disc) {
-        XType::Prim(Prim::Boolean) => Ok(LabelForm::Truth),
-        XType::Prim(Prim::Char8) => Ok(LabelForm::Character),
-        XType::Enum(kind) => {
+    let Some(declaration) = declaration_at(types, at) else {
+        return Ok(LabelForm::Truth);
+    };
+    match &declaration.definition {
+        Definition::Enum(kind) => {
             let literals = LiteralsByName::new(alloc, kind.literals.as_slice())?;
             Ok(LabelForm::Literal(literals))
         }
-        XType::Prim(
+        Definition::Alias(used) => label_form(alloc, &types[..at], used),
+        Definition::Mask(_) | Definition::Struct(_) | Definition::Union(_) => Ok(LabelForm::Number),
+    }
+}
+
+#[cycle(forms)]
+#[tactic(auto, using(idl_types::proofs::Wholes::whole_rules), unfolding(crate::specs::Unions::label))]
+fn label_form<'d>(
+    alloc: Global,
+    types: &'d [Declaration],
+    disc: &Used,
+) -> Result<LabelForm<'d>, OutOfMemory>
+    ensures { IfOk result (λ form. spec.label (view.form form) ≡ spec.label (whole (declared types.now) disc.now)) }
+{
+    match disc {
+        Used::Prim(Prim::Boolean) => Ok(LabelForm::Truth),
+        Used::Prim(Prim::Char8) => Ok(LabelForm::Character),
+        Used::Declared(at) => form_at(alloc, types, *at),
+        Used::Prim(
             Prim::Byte
             | Prim::Int8
             | Prim::Uint8
@@ -141,14 +150,10 @@ fn label_form<'d>(alloc: Global, disc: &'d XType) -> Result<LabelForm<'d>, OutOf
             | Prim::Float32
             | Prim::Float64,
         )
-        | XType::Str(_)
-        | XType::Mask(_)
-        | XType::Seq(_)
-        | XType::Array(_)
-        | XType::Map(_)
-        | XType::Struct(_)
-        | XType::Union(_)
-        | XType::Alias(_) => Ok(LabelForm::Number),
+        | Used::Str(_)
+        | Used::Seq { .. }
+        | Used::Array { .. }
+        | Used::Map { .. } => Ok(LabelForm::Number),
     }
 }
 
@@ -199,23 +204,22 @@ fn labels(
     Ok(LabelList { values, is_default })
 }
 
-#[tactic(auto, using(type_trees::proofs::Views::tree_rules))]
-fn case_of(labels: LabelList, member: Member) -> Case
-    ensures { case_tree result ≡ spec.a_case labels.values labels.is_default (member_tree member) }
+fn case_of(reader: &Reader<'_>, labels: LabelList, member: UsedMember) -> UsedCase
+    ensures { case_whole (state reader.now).types result ≡ spec.a_case labels.values labels.is_default (member_whole (state reader.now).types member) }
 {
-    let Member {
+    let UsedMember {
         id,
         name,
-        ty,
+        used,
         tc,
         optional: _,
         must_understand: _,
         key: _,
     } = member;
-    Case {
+    UsedCase {
         id,
         name,
-        ty,
+        used,
         tc,
         labels: labels.values,
         is_default: labels.is_default,
@@ -225,15 +229,20 @@ fn case_of(labels: LabelList, member: Member) -> Case
 /// Cases so far, their names, and the id after the last one's.
 #[derive(Drop)]
 pub(crate) struct Gathered<'a> {
-    cases: Row<Case>,
+    cases: Row<UsedCase>,
     names: NameSet<'a>,
     following: u64,
 }
 
-#[tactic(auto, using(type_trees::proofs::Views::tree_rules, std::proofs::lemmas::List::map_push))]
-fn with_case<'a>(gathered: &mut Gathered<'a>, name: &'a [u8], case: Case) -> Result<(), OutOfMemory>
+#[tactic(auto, using(std::proofs::lemmas::List::map_push))]
+fn with_case<'a>(
+    reader: &Reader<'a>,
+    gathered: &mut Gathered<'a>,
+    name: &'a [u8],
+    case: UsedCase,
+) -> Result<(), OutOfMemory>
     requires { taken name.now gathered.old.names ≡ false }
-    ensures { OnOk result (view.gathered gathered.new ≡ spec.with_case (view.gathered gathered.old) name.now (case_tree case)) }
+    ensures { let ts = (state reader.now).types in OnOk result (view.gathered ts gathered.new ≡ spec.with_case (view.gathered ts gathered.old) name.now (case_whole ts case)) }
 {
     gathered.following = u64::from(case.id) + 1;
     gathered.cases.push(case)?;
@@ -249,26 +258,26 @@ fn another_case<'a>(
     form: &LabelForm<'_>,
     gathered: &mut Gathered<'a>,
 ) -> Result<(), IdlFault>
-    ensures { Goes view.gathered (spec.case (state reader.now) hashed (view.form form.now) (view.gathered gathered.old) tokens.old) result gathered.new tokens.new }
+    ensures { Goes (view.gathered (state reader.now).types) (spec.case (state reader.now) hashed (view.form form.now) (view.gathered (state reader.now).types gathered.old) tokens.old) result gathered.new tokens.new }
 {
     let alloc = reader.alloc();
     let labels = labels(tokens, alloc, form)?;
     let notes = tokens.notes_at(alloc, Site::Case)?;
-    let ty = a_type(tokens, reader)?;
+    let used = a_type(tokens, reader)?;
     let (at, name) = new_name(tokens, &gathered.names)?;
     let following = gathered.following;
     let member = shaped(
         tokens,
-        alloc,
+        reader,
         at,
         name,
         notes.as_slice(),
         hashed,
         following,
-        ty,
+        used,
     )?;
     tokens.want(b";")?;
-    with_case(gathered, name, case_of(labels, member))?;
+    with_case(reader, gathered, name, case_of(reader, labels, member))?;
     Ok(())
 }
 
@@ -280,7 +289,7 @@ fn cases<'a>(
     form: &LabelForm<'_>,
     gathered: &mut Gathered<'a>,
 ) -> Result<(), IdlFault>
-    ensures { Goes view.gathered (to_brace (spec.case (state reader.now) hashed (view.form form.now)) (view.gathered gathered.old) tokens.old) result gathered.new tokens.new }
+    ensures { Goes (view.gathered (state reader.now).types) (to_brace (spec.case (state reader.now) hashed (view.form form.now)) (view.gathered (state reader.now).types gathered.old) tokens.old) result gathered.new tokens.new }
 {
     for _turn in 0..tokens.left() {
         another_case(tokens, reader, hashed, form, gathered)?;
@@ -291,12 +300,12 @@ fn cases<'a>(
     Err(tokens.syntax())
 }
 
-fn no_cases<'a>(alloc: Global) -> Gathered<'a>
-    ensures { view.gathered result ≡ spec.no_cases_yet }
+fn no_cases<'a>(reader: &Reader<'a>) -> Gathered<'a>
+    ensures { view.gathered (state reader.now).types result ≡ spec.no_cases_yet }
 {
     Gathered {
-        cases: Row::new(alloc),
-        names: NameSet::new(alloc),
+        cases: Row::new(reader.alloc()),
+        names: NameSet::new(reader.alloc()),
         following: 0,
     }
 }
@@ -306,55 +315,27 @@ fn cases_over<'a>(
     tokens: &mut Tokens<'a>,
     reader: &Reader<'a>,
     hashed: bool,
-    disc: &XType,
+    disc: &Used,
 ) -> Result<Gathered<'a>, IdlFault>
-    ensures { Reads view.gathered (to_brace (spec.case (state reader.now) hashed (tree disc.now)) spec.no_cases_yet tokens.old) result tokens.new }
+    ensures { Reads (view.gathered (state reader.now).types) (to_brace (spec.case (state reader.now) hashed (whole (state reader.now).types disc.now)) spec.no_cases_yet tokens.old) result tokens.new }
 {
-    let alloc = reader.alloc();
-    let form = label_form(alloc, disc)?;
-    let mut gathered = no_cases(alloc);
+    let form = label_form(reader.alloc(), reader.types(), disc)?;
+    let mut gathered = no_cases(reader);
     cases(tokens, reader, hashed, &form, &mut gathered)?;
     Ok(gathered)
 }
 
 /// The discriminator's type, and whether it is a key.
 #[tactic(auto, unfolding(crate::specs::Unions::discriminator))]
-fn discriminator<'a>(
-    tokens: &mut Tokens<'a>,
-    reader: &Reader<'a>,
-) -> Result<(XType, bool), IdlFault>
-    ensures { Reads (λ d. (tree d.0, d.1)) (spec.discriminator (state reader.now) tokens.old) result tokens.new }
+fn discriminator<'a>(tokens: &mut Tokens<'a>, reader: &Reader<'a>) -> Result<(Used, bool), IdlFault>
+    ensures { Reads (λ d. (whole (state reader.now).types d.0, d.1)) (spec.discriminator (state reader.now) tokens.old) result tokens.new }
 {
     tokens.want(b"switch")?;
     tokens.want(b"(")?;
     let notes = tokens.notes_at(reader.alloc(), Site::Discriminator)?;
-    let ty = a_type(tokens, reader)?;
+    let used = a_type(tokens, reader)?;
     tokens.want(b")")?;
-    Ok((ty, settings_of(notes.as_slice()).key))
-}
-
-#[tactic(auto, using(type_trees::proofs::Views::tree_rules))]
-fn union_of(
-    alloc: Global,
-    full: &Text,
-    set: Settings,
-    disc: XType,
-    disc_key: bool,
-    cases: Row<Case>,
-) -> Result<XType, OutOfMemory>
-    ensures { IfOk result (λ t. tree t ≡ spec.union_of full.now set (tree disc) disc_key (map case_tree cases)) }
-{
-    let name = Some(copy_text(alloc, full)?);
-    let kind = UnionType {
-        name,
-        ext: set.ext,
-        nested: set.nested,
-        hashed_ids: set.hashed,
-        disc,
-        disc_key,
-        cases,
-    };
-    Ok(XType::Union(boxed(alloc, kind)?))
+    Ok((used, settings_of(notes.as_slice()).key))
 }
 
 /// A union, from its keyword on.
@@ -364,15 +345,22 @@ pub fn union_def<'a>(
     reader: &Reader<'a>,
     set: Settings,
 ) -> Result<Made<'a>, IdlFault>
-    ensures { Reads view.made (spec.union_def (state reader.now) set tokens.old) result tokens.new }
+    ensures read { Reads (view.made (state reader.now).types) (spec.union_def (state reader.now) set tokens.old) result tokens.new }
+    ensures fits { IfOk result (λ m. fits (state reader.now).types m.definition ≡ true) }
 {
-    let alloc = reader.alloc();
     tokens.take();
     let name = new_type(tokens, reader)?;
     let (disc, disc_key) = discriminator(tokens, reader)?;
     tokens.want(b"{")?;
     let gathered = cases_over(tokens, reader, set.hashed, &disc)?;
     tokens.want(b";")?;
-    let ty = union_of(alloc, &name.full, set, disc, disc_key, gathered.cases)?;
-    Ok(defined(name, ty, true))
+    let definition = Definition::Union(UnionDefinition {
+        ext: set.ext,
+        nested: set.nested,
+        hashed_ids: set.hashed,
+        disc,
+        disc_key,
+        cases: gathered.cases,
+    });
+    Ok(defined(name, definition, true))
 }

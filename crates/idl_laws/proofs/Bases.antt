@@ -9,7 +9,8 @@ use Rattle.type_trees.specs.Bases.{take_members, split_last, head_of}
 use Rattle.type_trees.specs.Trees.{structure, StructHead, Members, no_members, member}
 use Rattle.type_trees.specs.View.{members_of}
 use Rattle.node_rules.specs.Rules.{counts_rise}
-use Rattle.idl_definitions.specs.Structures.{heritage, listed}
+use Rattle.idl_types.specs.Definitions.{listed}
+use Rattle.idl_definitions.specs.Structures.{heritage}
 use Rattle.idl_printer.specs.Parts.{members_behind}
 use Rattle.idl_printer.specs.Lines.{last_base}
 

@@ -26,9 +26,10 @@ use Rattle.idl_tokens.specs.names.Sets.{has}
 use Rattle.idl_input.specs.Words.{is_keyword}
 use Rattle.idl_input.specs.Input.{Parser, left}
 use Rattle.idl_types.specs.State.{State}
+use Rattle.idl_types.specs.Definitions.{ListedMembers, listed}
 use Rattle.idl_definitions.specs.Lists.{comma_from, with_commas, braced_from}
-use Rattle.idl_definitions.specs.Members.{ListedMembers, Listed, new_name, gives_id, id_for, a_member, shaped, with_member, another, members_of_type}
-use Rattle.idl_definitions.specs.Structures.{listed, inherited, members}
+use Rattle.idl_definitions.specs.Members.{Listed, new_name, gives_id, id_for, a_member, shaped, with_member, another, members_of_type}
+use Rattle.idl_definitions.specs.Structures.{inherited, members}
 use Rattle.idl_printer.specs.Words.{name_text, text_if, try_text, id_text}
 use Rattle.idl_printer.specs.Uses.{dims_text, declarator_text}
 use Rattle.idl_printer.specs.Parts.{member_notes, declared_text, member_text, members_text}

@@ -11,8 +11,9 @@ use Rattle.idl_tokens.specs.Tokens as tokens
 use Rattle.idl_input.specs.Input.{place, sees}
 use Rattle.idl_types.specs.State.{State}
 use Rattle.idl_types.specs.Names.{type_by_name}
+use Rattle.idl_types.specs.Definitions.{listed}
 use Rattle.idl_definitions.specs.declared.settings.Settings.{Settings}
-use Rattle.idl_definitions.specs.Structures.{Heritage, base_clause, in_profile, listed, struct_def}
+use Rattle.idl_definitions.specs.Structures.{Heritage, base_clause, in_profile, struct_def}
 use Rattle.idl_printer.specs.Uses.{reference_text}
 use Rattle.idl_printer.specs.Parts.{members_text, members_behind}
 use Rattle.idl_printer.specs.Lines.{last_base, base_text, count_of}

@@ -1,16 +1,17 @@
 -- One turn of each loop over names, and what a declaration adds.
-use Rattle.std.proofs.Common.{◌≡◌, ℕ, suc, ◌+◌, ◌-◌, ◌<◌, ◌≤◌, Bool, List, [], ◌∷◌, ◌++◌, length, take, map, Option, Some, None, slice_get, Ok, codes, if◌then◌else◌, refl, ap, ◌∙◌, arith, length-append}
+use Rattle.std.proofs.Common.{◌≡◌, ℕ, zero, suc, ◌+◌, ◌-◌, ◌<◌, ◌≤◌, Bool, List, [], ◌∷◌, ◌++◌, length, take, Some, None, slice_get, Ok, codes, if◌then◌else◌, refl, ap, ◌∙◌, arith, length-append}
 use Rattle.std.proofs.Math.Seq.{take-append_seam}
 use Rattle.xt_shapes.specs.Lists.{or_else}
-use Rattle.type_trees.specs.declared.types.Named.{Named}
-use Rattle.type_trees.specs.View.{tree}
 use Rattle.idl_tokens.specs.Classes.{Text}
 use Rattle.idl_tokens.specs.names.Scopes.{Names}
 use Rattle.idl_input.specs.Input.{Input, ◌>>=◌, pure, eat, name}
 use Rattle.idl_input.proofs.Turns.{turn, last}
 use Rattle.idl_types.specs.declared.opened.Opened.{Opened}
-use Rattle.idl_types.specs.State.{declared, outer}
-use Rattle.idl_types.specs.Names.{parts_from, a_name, ScopedName, scope_at, number_of, place_in, outward}
+use Rattle.idl_types.specs.State.{Declared, outer}
+use Rattle.idl_types.specs.declared.declarations.Declaration.{Declaration}
+use Rattle.idl_types.specs.Definitions.{defined, declared_from, declared}
+use Rattle.idl_types.specs.Uses.{tree_at}
+use Rattle.idl_types.specs.Names.{type_at, parts_from, a_name, ScopedName, scope_at, number_of, place_in, outward}
 
 pub parts_go : (n at : ℕ) (rooted : Bool) (path : List Text) (end : Text) (i : Input) → at < n
     → parts_from (n - at) rooted path end i
@@ -22,13 +23,32 @@ pub parts_end : (n at : ℕ) (rooted : Bool) (path : List Text) (end : Text) (i 
 unfolding parts_from
 parts_end n at rooted path end i done = last (λ k. parts_from k rooted path end i) n at done
 
-pub types_push : (ns : List Named) (n : Named) → declared (ns ++ n ∷ []) ≡ declared ns ++ (n.name, tree n.ty) ∷ []
-types_push [] n = refl
-types_push (x ∷ ns) n = ap (λ r. (x.name, tree x.ty) ∷ r) (types_push ns n)
+declared_push_from : (ts : Declared) (ds : List Declaration) (d : Declaration) → declared_from ts (ds ++ d ∷ []) ≡ declared_from ts ds ++ (d.name, defined (declared_from ts ds) d.name d.definition) ∷ []
+declared_push_from ts [] d = refl
+declared_push_from ts (x ∷ ds) d = declared_push_from (ts ++ (x.name, defined ts x.name x.definition) ∷ []) ds d
 
-pub declared_length : (ns : List Named) → length (declared ns) ≡ length ns
-declared_length [] = refl
-declared_length (x ∷ ns) = ap (λ k. suc k) (declared_length ns)
+pub types_push : (ds : List Declaration) (d : Declaration) → declared (ds ++ d ∷ []) ≡ declared ds ++ (d.name, defined (declared ds) d.name d.definition) ∷ []
+types_push ds d = declared_push_from [] ds d
+
+length_from : (ts : Declared) (ds : List Declaration) → length (declared_from ts ds) ≡ length ts + length ds
+length_from ts [] = omega arith
+length_from ts (x ∷ ds) =
+    let more : length (ts ++ (x.name, defined ts x.name x.definition) ∷ []) ≡ length ts + 1 = length-append ts ((x.name, defined ts x.name x.definition) ∷ []) in
+    let rest = length_from (ts ++ (x.name, defined ts x.name x.definition) ∷ []) ds in
+    omega (arith, more, rest)
+
+pub declared_length : (ds : List Declaration) → length (declared ds) ≡ length ds
+declared_length ds = omega (arith, length_from [] ds)
+
+pub place_there : (ts : Declared) (at : ℕ) → at < length ts → type_at ts (Some at) ≡ Some (tree_at ts at)
+place_there [] at within = absurd (omega arith)
+place_there (d ∷ ts) zero within = refl
+place_there (d ∷ ts) (suc at) within = place_there ts at (omega arith)
+
+pub place_past : (ts : Declared) (at : ℕ) → length ts ≤ at → type_at ts (Some at) ≡ None
+place_past [] at past = refl
+place_past (d ∷ ts) zero past = absurd (omega arith)
+place_past (d ∷ ts) (suc at) past = place_past ts at (omega arith)
 
 pub outer_is : (os : List Opened) (o : Opened) → outer (os ++ o ∷ []) ≡ os
 outer_is os o =

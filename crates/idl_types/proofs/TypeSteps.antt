@@ -2,7 +2,6 @@
 use Rattle.std.proofs.Common.{◌≡◌, ℕ, zero, suc, ◌+◌, ◌-◌, ◌<◌, ◌≤◌, Bool, true, false, List, [], ◌∷◌, ◌++◌, reverse, Option, Some, None, Err, refl, ap, ◌∙◌, arith}
 use Rattle.std.proofs.lemmas.List.{reverse-append}
 use Rattle.type_trees.specs.Trees.{Tree, prim}
-use Rattle.idl_tokens.specs.Classes.{Text}
 use Rattle.idl_input.specs.declared.faults.IdlFault.TheVariants as fault
 use Rattle.idl_types.specs.declared.types.Open.{Open}
 use Rattle.idl_types.specs.declared.types.Open.TheVariants.{Element, Key}

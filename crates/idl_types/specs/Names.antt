@@ -1,5 +1,5 @@
 -- Names, and what they mean in a module (OMG IDL 4.2, 7.5).
-use Rattle.std.specs.Prelude.{ℕ, zero, suc, ◌+◌, Bool, if◌then◌else◌, List, [], ◌∷◌, ◌++◌, length, map, slice_get, Option, Some, None, codes}
+use Rattle.std.specs.Prelude.{ℕ, zero, suc, ◌+◌, Bool, if◌then◌else◌, List, [], ◌∷◌, ◌++◌, length, slice_get, Option, Some, None, codes}
 use Rattle.std.specs.Option.{option_map}
 use Rattle.xt_shapes.specs.Lists.{or_else}
 use Rattle.type_trees.specs.Trees.{Tree}
@@ -8,7 +8,7 @@ use Rattle.idl_tokens.specs.declared.names.scopes.Meaning.{Meaning}
 use Rattle.idl_tokens.specs.declared.names.scopes.Meaning.TheVariants as meaning_of
 use Rattle.idl_tokens.specs.names.Scopes.{Names, meaning}
 use Rattle.idl_input.specs.declared.faults.IdlFault.TheVariants as fault
-use Rattle.idl_input.specs.Input.{Input, Parser, ◌>>=◌, ◌>>◌, pure, refuse, here, eat, name, turns}
+use Rattle.idl_input.specs.Input.{Input, Parser, ◌>>=◌, pure, refuse, here, eat, name, turns}
 use Rattle.idl_types.specs.declared.opened.Opened.{Opened}
 use Rattle.idl_types.specs.State.{State, Declared, with_module}
 

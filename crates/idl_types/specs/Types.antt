@@ -1,5 +1,5 @@
 -- Types where they are used (OMG IDL 4.2, 7.4.1).
-use Rattle.std.specs.Prelude.{◌≡◌, ◌≢◌, Result, ℕ, zero, suc, ◌+◌, Bool, true, false, not, ◌&&◌, ◌||◌, if◌then◌else◌, List, [], ◌∷◌, ◌++◌, length, Option, Some, None, Ok, Err, codes}
+use Rattle.std.specs.Prelude.{◌≡◌, ◌≢◌, Result, ℕ, zero, suc, Bool, true, false, ◌||◌, if◌then◌else◌, List, [], ◌∷◌, Option, Some, None, Ok, Err, codes}
 use Rattle.xt_shapes.specs.declared.leaves.Primitive.{Primitive}
 use Rattle.xt_shapes.specs.declared.leaves.Try.{Try}
 use Rattle.type_trees.specs.Trees.{Tree, prim, str, sequence, map_of}
@@ -7,14 +7,13 @@ use Rattle.xt_annotations.specs.declared.notes.Placed.{Placed}
 use Rattle.xt_annotations.specs.declared.notes.Note.{Note}
 use Rattle.xt_annotations.specs.declared.notes.Note.TheVariants as note
 use Rattle.xt_annotations.specs.declared.places.Site.{Site}
-use Rattle.idl_tokens.specs.Classes.{Text}
 use Rattle.idl_input.specs.declared.faults.IdlFault.{IdlFault}
 use Rattle.idl_input.specs.declared.faults.IdlFault.TheVariants as fault
 use Rattle.idl_input.specs.declared.words.Keyword.{Keyword}
 use Rattle.idl_input.specs.declared.words.Keyword.TheVariants as word
 use Rattle.idl_types.specs.declared.types.Open.{Open}
 use Rattle.idl_types.specs.declared.types.Open.TheVariants.{Element, Key}
-use Rattle.idl_input.specs.Input.{Input, Outcome, Parser, ◌>>=◌, ◌>>◌, pure, syntax, here, place, eat, want, take_token, sees, sees_name, keyword_at, bound, notes_at, turns}
+use Rattle.idl_input.specs.Input.{Input, Outcome, Parser, ◌>>=◌, ◌>>◌, pure, syntax, place, eat, want, take_token, sees, sees_name, keyword_at, bound, notes_at, turns}
 use Rattle.idl_types.specs.State.{State}
 use Rattle.idl_types.specs.Names.{type_by_name}
 

@@ -2,7 +2,8 @@
 use Rattle.std.specs.Prelude.{map}
 use Rattle.idl_types.specs.declared.names.Scoped.{Scoped}
 use Rattle.idl_types.specs.declared.reader.Reader.{Reader}
-use Rattle.idl_types.specs.State.{State, declared}
+use Rattle.idl_types.specs.State.{State}
+use Rattle.idl_types.specs.Definitions.{declared}
 use Rattle.idl_types.specs.Names.{ScopedName}
 
 abbrev pub scoped_name : Scoped → ScopedName

@@ -2,14 +2,22 @@
 //! types where they are used.
 #![tactic(auto)]
 
+mod declarations;
+mod kept;
 mod names;
 mod opened;
 mod places;
 mod reader;
 mod scopes;
 mod types;
+mod uses;
 
+pub use declarations::{
+    Declaration, Definition, StructDefinition, UnionDefinition, UsedCase, UsedMember,
+};
+pub use kept::Declarations;
 pub use names::{Scoped, scoped_name};
 pub use opened::Opened;
-pub use reader::{Reader, type_by_name};
+pub use reader::{Reader, declaration_at, type_by_name};
 pub use types::{a_type, boxed};
+pub use uses::Used;

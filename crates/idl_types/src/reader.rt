@@ -1,28 +1,32 @@
-ghost use Rattle.std.specs.Prelude.{◌≡◌, ◌≤◌, ◌<◌, length, slice_get, map, None, Some, OnOk, IfOk, [], ◌∷◌, ◌++◌, ◌+◌, ◌^◌};
+ghost use Rattle.std.specs.Prelude.{◌≡◌, ◌≤◌, ◌<◌, length, slice_get, take, map, MatchOption, None, Some, OnOk, IfOk, true, [], ◌∷◌, ◌++◌, ◌+◌, ◌^◌};
 ghost use Rattle.std.specs.Option.{option_map};
-ghost use Rattle.type_trees.specs.View.{tree};
 ghost use Rattle.idl_tokens.specs.names.Scopes.{meaning};
 ghost use Rattle.idl_input.specs.Input.{Reads};
 ghost use Rattle.idl_types.specs.Names as spec;
 ghost use Rattle.idl_types.specs.State as state;
+ghost use Rattle.type_rules.specs.Valid.{type_fault};
+ghost use Rattle.idl_types.specs.Definitions.{declared, defined, fits};
+ghost use Rattle.idl_types.specs.Kept.{all_valid};
+ghost use Rattle.idl_types.specs.Uses.{tree_at, tree_or, whole};
 ghost use Rattle.idl_types.specs.Views as view;
 
+use crate::declarations::{Declaration, Definition};
+use crate::kept::Declarations;
 use crate::names::{Scoped, scoped_name};
 use crate::opened::Opened;
 use crate::places::place_of;
 use crate::scopes::Scopes;
+use crate::uses::Used;
 use idl_input::{IdlFault, Tokens};
 use idl_tokens::names::Meaning;
 use std::alloc::Global;
-use type_trees::{Named, XType};
-use type_values::copy_type;
-use xt_lists::{OutOfMemory, Row, Text};
+use xt_lists::{OutOfMemory, Text};
 
 /// What stands at a place in a text: the types and names that are declared, and the modules that are open.
 #[derive(Drop)]
 pub struct Reader<'a> {
     alloc: Global,
-    types: Row<Named>,
+    types: Declarations,
     scopes: Scopes<'a>,
     fresh: bool,
 }
@@ -34,7 +38,7 @@ impl<'a> Reader<'a> {
     {
         Reader {
             alloc,
-            types: Row::new(alloc),
+            types: Declarations::new(alloc),
             scopes: Scopes::new(alloc),
             fresh: false,
         }
@@ -46,8 +50,8 @@ impl<'a> Reader<'a> {
     }
 
     /// The types, in the order of the text.
-    pub fn into_types(self) -> Row<Named>
-        ensures { state.declared result ≡ (view.state self.entry).types }
+    pub fn into_types(self) -> Declarations
+        ensures { declared result ≡ (view.state self.entry).types }
     {
         let Reader {
             alloc: _,
@@ -56,6 +60,14 @@ impl<'a> Reader<'a> {
             fresh: _,
         } = self;
         types
+    }
+
+    /// The declarations, in the order of the text.
+    pub fn types(&self) -> &[Declaration]
+        ensures same { declared result.now ≡ (view.state self.now).types }
+        ensures valid { all_valid (view.state self.now).types ≡ true }
+    {
+        self.types.as_slice()
     }
 
     /// How many modules are open.
@@ -95,11 +107,22 @@ impl<'a> Reader<'a> {
 
     /// Declares a type in the innermost scope.
     #[tactic(auto, using(crate::proofs::NameLoops::types_push, crate::proofs::NameLoops::declared_length))]
-    pub fn declare(&mut self, name: &'a [u8], full: Text, ty: XType) -> Result<(), OutOfMemory>
-        ensures { OnOk result (view.state self.new ≡ state.with_type (spec.innermost (view.state self.old).opened) name.now full (tree ty) (view.state self.old)) }
+    pub fn declare(
+        &mut self,
+        name: &'a [u8],
+        full: Text,
+        definition: Definition,
+    ) -> Result<(), OutOfMemory>
+        requires fits { fits (view.state self.old).types definition ≡ true }
+        requires valid { type_fault (defined (view.state self.old).types full definition) ≡ None }
+        ensures { OnOk result (view.state self.new ≡ state.with_type (spec.innermost (view.state self.old).opened) name.now full (defined (view.state self.old).types full definition) (view.state self.old)) }
     {
-        self.scopes.declare(self.alloc, name, self.types.len())?;
-        self.types.push(Named { name: full, ty })?;
+        self.scopes
+            .declare(self.alloc, name, self.types.as_slice().len())?;
+        self.types.push(Declaration {
+            name: full,
+            definition,
+        })?;
         self.fresh = false;
         Ok(())
     }
@@ -131,15 +154,13 @@ impl<'a> Reader<'a> {
         self.fresh = false;
     }
 
-    /// The type that a scoped name means.
+    /// The place of the type that a scoped name means.
     #[tactic(auto, unfolding(crate::specs::Names::meant))]
-    pub fn meant(&self, name: &Scoped<'a>) -> Option<&XType>
-        ensures { option_map (λ t. tree t.now) result ≡ spec.meant (view.state self.now) (view.scoped_name name.now) }
+    pub fn meant(&self, name: &Scoped<'a>) -> Option<usize>
+        ensures { option_map (tree_at (view.state self.now).types) result ≡ spec.meant (view.state self.now) (view.scoped_name name.now) }
     {
-        match place_of(&self.scopes, name) {
-            Some(at) => type_at(self.types.as_slice(), at),
-            None => None,
-        }
+        let at = place_of(&self.scopes, name)?;
+        within(self.types.as_slice(), at)
     }
 }
 
@@ -155,25 +176,40 @@ fn full_name(alloc: Global, opened: &[Opened], name: &[u8]) -> Result<Text, OutO
     Ok(full)
 }
 
-/// The type at a place of the list of types.
-fn type_at(types: &[Named], at: usize) -> Option<&XType>
-    ensures { option_map (λ t. tree t.now) result ≡ spec.type_at (state.declared types.now) (Some at) }
+fn at_place(types: &[Declaration], at: usize) -> Option<&Declaration>
+    ensures { option_map (λ d. d.now) result ≡ slice_get types.now at }
 {
-    match types.get(at) {
-        Some(named) => Some(&named.ty),
+    types.get(at)
+}
+
+/// The declaration at a place, where there is one.
+#[tactic(auto, using(crate::proofs::DeclaredAt::declared_at, crate::proofs::DeclaredAt::nothing_at, crate::proofs::DeclaredAt::below))]
+pub fn declaration_at(types: &[Declaration], at: usize) -> Option<&Declaration>
+    ensures { MatchOption result (tree_at (declared types.now) at ≡ tree_or None) (λ d. (at < length types.now) × (tree_at (declared types.now) at ≡ defined (declared (take at types.now)) d.now.name d.now.definition)) }
+{
+    match at_place(types, at) {
+        Some(declaration) => Some(declaration),
         None => None,
     }
 }
 
+/// The place, where a type stands there.
+#[tactic(auto, using(crate::proofs::NameLoops::declared_length))]
+fn within(types: &[Declaration], at: usize) -> Option<usize>
+    ensures { option_map (tree_at (declared types.now)) result ≡ spec.type_at (declared types.now) (Some at) }
+{
+    if at < types.len() { Some(at) } else { None }
+}
+
 /// A type by its name.
-#[tactic(auto, unfolding(crate::specs::Names::type_by_name))]
-pub fn type_by_name<'a>(tokens: &mut Tokens<'a>, reader: &Reader<'a>) -> Result<XType, IdlFault>
-    ensures { Reads tree (spec.type_by_name (view.state reader.now) tokens.old) result tokens.new }
+#[tactic(auto, using(crate::proofs::Wholes::whole_rules), unfolding(crate::specs::Names::type_by_name))]
+pub fn type_by_name<'a>(tokens: &mut Tokens<'a>, reader: &Reader<'a>) -> Result<Used, IdlFault>
+    ensures { Reads (whole (view.state reader.now).types) (spec.type_by_name (view.state reader.now) tokens.old) result tokens.new }
 {
     let at = tokens.place();
     let name = scoped_name(tokens, reader.alloc())?;
     match reader.meant(&name) {
-        Some(ty) => Ok(copy_type(reader.alloc(), ty)?),
+        Some(place) => Ok(Used::Declared(place)),
         None => Err(IdlFault::Unknown { at }),
     }
 }

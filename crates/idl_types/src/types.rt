@@ -1,16 +1,17 @@
 ghost use Rattle.std.specs.Prelude.{◌≡◌, ◌∷◌, [], ◌<◌, List, Result, IfOk, reverse};
-ghost use Rattle.type_trees.specs.View.{tree, elem_tree};
+ghost use Rattle.type_trees.specs.Trees.{prim, str};
 ghost use Rattle.idl_input.specs.declared.faults.IdlFault.{IdlFault};
 ghost use Rattle.idl_input.specs.Input.{Input, Reads, keyword_at};
 ghost use Rattle.idl_types.specs.declared.types.Open.{Open};
 ghost use Rattle.idl_types.specs.Names.{turns_of};
 ghost use Rattle.idl_types.specs.Types as spec;
+ghost use Rattle.idl_types.specs.Uses.{whole};
 ghost use Rattle.idl_types.specs.Views.{state};
 
 use crate::reader::{Reader, type_by_name};
+use crate::uses::Used;
 use idl_input::{Begins, CollectionWord, IdlFault, Keyword, PlainWord, Tokens};
 use std::alloc::Global;
-use type_trees::{Elem, MapType, SeqType, XType};
 use xt_annotations::{Note, Placed, Site};
 use xt_lists::{OutOfMemory, Row};
 use xt_shapes::{Prim, Try};
@@ -23,41 +24,42 @@ pub(crate) enum Open {
 }
 
 #[tactic(auto, unfolding(crate::specs::Types::unsigned_type))]
-fn unsigned_type(tokens: &mut Tokens<'_>) -> Result<XType, IdlFault>
-    ensures { Reads tree (spec.unsigned_type tokens.old) result tokens.new }
+fn unsigned_type(tokens: &mut Tokens<'_>) -> Result<Prim, IdlFault>
+    ensures { Reads prim (spec.unsigned_type tokens.old) result tokens.new }
 {
     if tokens.eat(b"short") {
-        return Ok(XType::Prim(Prim::Uint16));
+        return Ok(Prim::Uint16);
     }
     tokens.want(b"long")?;
-    Ok(XType::Prim(if tokens.eat(b"long") {
+    Ok(if tokens.eat(b"long") {
         Prim::Uint64
     } else {
         Prim::Uint32
-    }))
+    })
 }
 
 #[tactic(auto, unfolding(crate::specs::Types::long_type))]
-fn long_type(tokens: &mut Tokens<'_>) -> Result<XType, IdlFault>
-    ensures { Reads tree (spec.long_type tokens.old) result tokens.new }
+fn long_type(tokens: &mut Tokens<'_>) -> Result<Prim, IdlFault>
+    ensures { Reads prim (spec.long_type tokens.old) result tokens.new }
 {
-    Ok(XType::Prim(if tokens.eat(b"long") {
+    Ok(if tokens.eat(b"long") {
         Prim::Int64
     } else {
         Prim::Int32
-    }))
+    })
 }
 
+/// The bound of a string.
 #[tactic(auto, unfolding(crate::specs::Types::string_type))]
-fn string_type(tokens: &mut Tokens<'_>) -> Result<XType, IdlFault>
-    ensures { Reads tree (spec.string_type tokens.old) result tokens.new }
+fn string_type(tokens: &mut Tokens<'_>) -> Result<u32, IdlFault>
+    ensures { Reads str (spec.string_type tokens.old) result tokens.new }
 {
     if !tokens.eat(b"<") {
-        return Ok(XType::Str(0));
+        return Ok(0);
     }
     let bound = tokens.bound()?;
     tokens.want(b">")?;
-    Ok(XType::Str(bound))
+    Ok(bound)
 }
 
 /// The bound of a collection, if it has one, and its end.
@@ -82,8 +84,8 @@ fn try_of(notes: &[Placed]) -> Try
 }
 
 #[tactic(auto, unfolding(crate::specs::Types::named_type))]
-fn named_type<'a>(tokens: &mut Tokens<'a>, reader: &Reader<'a>) -> Result<XType, IdlFault>
-    ensures { Reads tree (spec.named_type (state reader.now) tokens.old) result tokens.new }
+fn named_type<'a>(tokens: &mut Tokens<'a>, reader: &Reader<'a>) -> Result<Used, IdlFault>
+    ensures { Reads (whole (state reader.now).types) (spec.named_type (state reader.now) tokens.old) result tokens.new }
 {
     if tokens.sees_name() || tokens.sees(b"::") {
         type_by_name(tokens, reader)
@@ -93,31 +95,31 @@ fn named_type<'a>(tokens: &mut Tokens<'a>, reader: &Reader<'a>) -> Result<XType,
 }
 
 /// A type that is no collection.
-#[tactic(auto, using(type_trees::proofs::Views::tree_rules, crate::proofs::TypeSteps::plain_begins))]
+#[tactic(auto, using(crate::proofs::Wholes::whole_rules, crate::proofs::TypeSteps::plain_begins))]
 fn plain_type<'a>(
     tokens: &mut Tokens<'a>,
     reader: &Reader<'a>,
     keyword: Option<Keyword>,
-) -> Result<XType, IdlFault>
-    ensures { Reads tree (spec.plain_type (state reader.now) keyword tokens.old) result tokens.new }
+) -> Result<Used, IdlFault>
+    ensures { Reads (whole (state reader.now).types) (spec.plain_type (state reader.now) keyword tokens.old) result tokens.new }
 {
     match Begins::of(keyword) {
         Begins::NoKeyword => named_type(tokens, reader),
         Begins::Plain(PlainWord::Simple(kind)) => {
             tokens.take();
-            Ok(XType::Prim(kind))
+            Ok(Used::Prim(kind))
         }
         Begins::Plain(PlainWord::Long) => {
             tokens.take();
-            long_type(tokens)
+            Ok(Used::Prim(long_type(tokens)?))
         }
         Begins::Plain(PlainWord::Unsigned) => {
             tokens.take();
-            unsigned_type(tokens)
+            Ok(Used::Prim(unsigned_type(tokens)?))
         }
         Begins::Plain(PlainWord::Str) => {
             tokens.take();
-            string_type(tokens)
+            Ok(Used::Str(string_type(tokens)?))
         }
         Begins::Outside => Err(IdlFault::NotInProfile { at: tokens.place() }),
         Begins::Module | Begins::Definition(_) | Begins::Collection(_) | Begins::Nothing => {
@@ -139,54 +141,60 @@ where
 }
 
 #[cycle(types)]
-#[tactic(auto, using(type_trees::proofs::Views::tree_rules), unfolding(crate::specs::Types::element))]
+#[tactic(auto, using(crate::proofs::Wholes::whole_rules), unfolding(crate::specs::Types::element))]
 fn element<'a>(
     tokens: &mut Tokens<'a>,
     reader: &Reader<'a>,
     levels: usize,
-) -> Result<Elem, IdlFault>
-    ensures { Reads elem_tree (spec.element (spec.type_to (state reader.now) levels) tokens.old) result tokens.new }
+) -> Result<(Try, Used), IdlFault>
+    ensures { Reads (λ e. (e.0, whole (state reader.now).types e.1)) (spec.element (spec.type_to (state reader.now) levels) tokens.old) result tokens.new }
 {
     let notes = tokens.notes_at(reader.alloc(), Site::Element)?;
-    let ty = type_to(tokens, reader, levels)?;
-    Ok(Elem {
-        ty,
-        tc: try_of(notes.as_slice()),
-    })
+    let used = type_to(tokens, reader, levels)?;
+    Ok((try_of(notes.as_slice()), used))
 }
 
 #[cycle(types)]
-#[tactic(auto, using(type_trees::proofs::Views::tree_rules), unfolding(crate::specs::Types::sequence_type))]
+#[tactic(auto, using(crate::proofs::Wholes::whole_rules), unfolding(crate::specs::Types::sequence_type))]
 fn sequence_type<'a>(
     tokens: &mut Tokens<'a>,
     reader: &Reader<'a>,
     levels: usize,
-) -> Result<XType, IdlFault>
-    ensures { Reads tree (spec.sequence_type (spec.type_to (state reader.now) levels) tokens.old) result tokens.new }
+) -> Result<Used, IdlFault>
+    ensures { Reads (whole (state reader.now).types) (spec.sequence_type (spec.type_to (state reader.now) levels) tokens.old) result tokens.new }
 {
     tokens.take();
     tokens.want(b"<")?;
-    let elem = element(tokens, reader, levels)?;
+    let (tc, elem) = element(tokens, reader, levels)?;
     let bound = last_bound(tokens)?;
-    Ok(XType::Seq(boxed(reader.alloc(), SeqType { bound, elem })?))
+    let elem = boxed(reader.alloc(), elem)?;
+    Ok(Used::Seq { bound, tc, elem })
 }
 
 #[cycle(types)]
-#[tactic(auto, using(type_trees::proofs::Views::tree_rules), unfolding(crate::specs::Types::map_type))]
+#[tactic(auto, using(crate::proofs::Wholes::whole_rules), unfolding(crate::specs::Types::map_type))]
 fn map_type<'a>(
     tokens: &mut Tokens<'a>,
     reader: &Reader<'a>,
     levels: usize,
-) -> Result<XType, IdlFault>
-    ensures { Reads tree (spec.map_type (spec.type_to (state reader.now) levels) tokens.old) result tokens.new }
+) -> Result<Used, IdlFault>
+    ensures { Reads (whole (state reader.now).types) (spec.map_type (spec.type_to (state reader.now) levels) tokens.old) result tokens.new }
 {
     tokens.take();
     tokens.want(b"<")?;
-    let key = element(tokens, reader, levels)?;
+    let (key_tc, key) = element(tokens, reader, levels)?;
     tokens.want(b",")?;
-    let value = element(tokens, reader, levels)?;
+    let (tc, value) = element(tokens, reader, levels)?;
     let bound = last_bound(tokens)?;
-    Ok(XType::Map(boxed(reader.alloc(), MapType { bound, key, value })?))
+    let key = boxed(reader.alloc(), key)?;
+    let value = boxed(reader.alloc(), value)?;
+    Ok(Used::Map {
+        bound,
+        key_tc,
+        key,
+        tc,
+        value,
+    })
 }
 
 /// A type, of which that many levels of collections are kept.
@@ -196,8 +204,8 @@ fn type_to<'a>(
     tokens: &mut Tokens<'a>,
     reader: &Reader<'a>,
     levels: usize,
-) -> Result<XType, IdlFault>
-    ensures { Reads tree (spec.type_to (state reader.now) levels tokens.old) result tokens.new }
+) -> Result<Used, IdlFault>
+    ensures { Reads (whole (state reader.now).types) (spec.type_to (state reader.now) levels tokens.old) result tokens.new }
 {
     let keyword = tokens.keyword();
     match Begins::of(keyword) {
@@ -225,11 +233,11 @@ fn type_to<'a>(
 }
 
 #[tactic(auto, unfolding(crate::specs::Types::deep_type))]
-fn deep_type<'a>(tokens: &mut Tokens<'a>, reader: &Reader<'a>) -> Result<XType, IdlFault>
-    ensures { Reads tree (spec.deep_type (state reader.now) tokens.old) result tokens.new }
+fn deep_type<'a>(tokens: &mut Tokens<'a>, reader: &Reader<'a>) -> Result<Used, IdlFault>
+    ensures { Reads (whole (state reader.now).types) (spec.deep_type (state reader.now) tokens.old) result tokens.new }
 {
     pass(tokens, reader)?;
-    Ok(XType::Prim(Prim::Boolean))
+    Ok(Used::Prim(Prim::Boolean))
 }
 
 /// Begins a collection that is only passed over.
@@ -244,10 +252,10 @@ fn begin(tokens: &mut Tokens<'_>, alloc: Global) -> Result<(), IdlFault>
 
 /// Passes what follows an inner type, up to where another type is due. Whether all is closed.
 #[tactic(auto, using(crate::proofs::TypeSteps::reverse_push))]
-fn close(tokens: &mut Tokens<'_>, alloc: Global, open: &mut Row<Open>) -> Result<bool, IdlFault>
-    ensures { (due : List Open → Input → Result (Unit {0} × Input) IdlFault) → spec.Continues due (spec.closing due (reverse open.old) tokens.old) result (reverse open.new) tokens.new }
+fn close(tokens: &mut Tokens<'_>, alloc: Global, begun: &mut Row<Open>) -> Result<bool, IdlFault>
+    ensures { (due : List Open → Input → Result (Unit {0} × Input) IdlFault) → spec.Continues due (spec.closing due (reverse begun.old) tokens.old) result (reverse begun.new) tokens.new }
 {
-    while let Some(last) = open.pop() {
+    while let Some(last) = begun.pop() {
         match last {
             Open::Element => {
                 last_bound(tokens)?;
@@ -255,7 +263,7 @@ fn close(tokens: &mut Tokens<'_>, alloc: Global, open: &mut Row<Open>) -> Result
             Open::Key => {
                 tokens.want(b",")?;
                 tokens.notes_at(alloc, Site::Element)?;
-                open.push(Open::Element)?;
+                begun.push(Open::Element)?;
                 return Ok(false);
             }
         }
@@ -268,21 +276,21 @@ fn close(tokens: &mut Tokens<'_>, alloc: Global, open: &mut Row<Open>) -> Result
 fn step<'a>(
     tokens: &mut Tokens<'a>,
     reader: &Reader<'a>,
-    open: &mut Row<Open>,
+    begun: &mut Row<Open>,
 ) -> Result<bool, IdlFault>
     ensures { (due : List Open → Input → Result (Unit {0} × Input) IdlFault)
-        → spec.Continues due (spec.due_by due (state reader.now) (reverse open.old) (keyword_at tokens.old) tokens.old) result (reverse open.new) tokens.new }
+        → spec.Continues due (spec.due_by due (state reader.now) (reverse begun.old) (keyword_at tokens.old) tokens.old) result (reverse begun.new) tokens.new }
 {
     let keyword = tokens.keyword();
     match Begins::of(keyword) {
         Begins::Collection(CollectionWord::Sequence) => {
             begin(tokens, reader.alloc())?;
-            open.push(Open::Element)?;
+            begun.push(Open::Element)?;
             Ok(false)
         }
         Begins::Collection(CollectionWord::Map) => {
             begin(tokens, reader.alloc())?;
-            open.push(Open::Key)?;
+            begun.push(Open::Key)?;
             Ok(false)
         }
         Begins::Module
@@ -292,7 +300,7 @@ fn step<'a>(
         | Begins::Nothing
         | Begins::NoKeyword => {
             plain_type(tokens, reader, keyword)?;
-            close(tokens, reader.alloc(), open)
+            close(tokens, reader.alloc(), begun)
         }
     }
 }
@@ -302,9 +310,9 @@ fn step<'a>(
 fn pass<'a>(tokens: &mut Tokens<'a>, reader: &Reader<'a>) -> Result<(), IdlFault>
     ensures { Reads (λ x. x) (spec.due (state reader.now) (turns_of tokens.old) [] tokens.old) result tokens.new }
 {
-    let mut open = Row::new(reader.alloc());
+    let mut begun = Row::new(reader.alloc());
     for _turn in 0..tokens.left() {
-        let is_over = step(tokens, reader, &mut open)?;
+        let is_over = step(tokens, reader, &mut begun)?;
         if is_over {
             return Ok(());
         }
@@ -314,8 +322,8 @@ fn pass<'a>(tokens: &mut Tokens<'a>, reader: &Reader<'a>) -> Result<(), IdlFault
 
 /// A type where it is used. At most 17 levels of collections are kept, one more than a valid type may have: what is nested deeper is passed
 /// over, and stands as a boolean.
-pub fn a_type<'a>(tokens: &mut Tokens<'a>, reader: &Reader<'a>) -> Result<XType, IdlFault>
-    ensures { Reads tree (spec.a_type (state reader.now) tokens.old) result tokens.new }
+pub fn a_type<'a>(tokens: &mut Tokens<'a>, reader: &Reader<'a>) -> Result<Used, IdlFault>
+    ensures { Reads (whole (state reader.now).types) (spec.a_type (state reader.now) tokens.old) result tokens.new }
 {
     type_to(tokens, reader, 17)
 }

@@ -33,7 +33,7 @@ fn all_positive(dims: &[u32]) -> bool
 }
 
 /// Whether there are 1 to 8 dimensions, each at least 1.
-fn dims_fit(dims: &[u32]) -> bool
+pub fn dims_fit(dims: &[u32]) -> bool
     ensures { result ≡ node.dims_fit dims.now }
 {
     dims.len() > 0 && dims.len() <= 8 && all_positive(dims)

@@ -6,7 +6,7 @@ use Rattle.type_trees.specs.Trees.{Tree}
 use Rattle.type_rules.specs.Valid.{type_fault}
 use Rattle.type_rules.proofs.OfFaultless.Parts.{each_part_is_valid}
 use Rattle.type_object.specs.Pools.{Texts}
-use Rattle.object_walks.specs.Resolving.{Stop, Refusal, checked, settled, resolved, walked}
+use Rattle.object_walks.specs.Resolving.{Stop, checked, settled, resolved, walked}
 use Rattle.object_walks.proofs.Freely.{parts_are_walked, resolved_is_walked}
 use Rattle.resolve_laws.specs.Laws.{ValidResolves, PartsResolve}
 

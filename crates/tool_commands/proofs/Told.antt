@@ -16,14 +16,19 @@ use Rattle.tool_runs.specs.output.Runs.{Leads, Steps}
 use Rattle.tool_runs.proofs.OfOutput.Turning.{stop_on}
 use Rattle.tool_runs.specs.declared.output.ending.Style.{Style}
 use Rattle.idl_types.specs.State as idl_types
+use Rattle.idl_types.specs.Definitions as definitions
+use Rattle.idl_types.specs.declared.declarations.Declaration as definition
+use Rattle.type_resolve.specs.declared.sides.Identifiers.{Identifiers}
 use Rattle.tool_types.specs.Types.{Declared, types, Declaration, declare, declared_by}
-use Rattle.tool_types.specs.Coming.{AllComeBack, ComesBack}
-use Rattle.tool_types.specs.Declaring.{declared_view}
+use Rattle.tool_types.specs.Coming.{AllComeBack, ComeBack, ComesBack}
+use Rattle.tool_types.specs.Declaring.{AreIdentified, IsGood, declared_view}
 use Rattle.tool_types.specs.declared.declaring.Declared.{Declared as Record}
+use Rattle.tool_types.specs.declared.declaring.Declared.TheVariants.{Types}
 use Rattle.tool_verdicts.specs.Versions as spec
 use Rattle.tool_verdicts.specs.Versions.{Finding, any_breaks, behind, between, breaks, ending_of, finding_line, findings, telling, versions}
-use Rattle.tool_verdicts.specs.Reports.{lines_of, version_view}
+use Rattle.tool_verdicts.specs.Reports.{IsVersion, lines_of, version_view}
 use Rattle.tool_commands.specs.Comparing.{behind_last, next_findings, remaining, telling_on}
+use Rattle.tool_verdicts.specs.declared.versions.comparing.Version.{Version}
 use Rattle.tool_verdicts.specs.declared.versions.progress.Progress.{Progress}
 
 -- ---- lines
@@ -121,6 +126,16 @@ pub record_told : (q : Policy) (r : Rep) (p : Progress) (k : ℕ) (d : Declared)
     → remaining q r p k (d ∷ rest) ≡ telling p.broke (next_findings q r (option_map version_view p.older) (record { number = k; types = ts }) ++ behind_last q r (Some (record { number = k; types = ts })) (versions (k + 1) rest))
 record_told q r p k d ts rest is =
     ap (λ (x : Declared). remaining q r p k (x ∷ rest)) is ∙ ap (λ (fs : List Finding). telling p.broke fs) (version_on q r (option_map version_view p.older) (record { number = k; types = ts }) (versions (k + 1) rest))
+
+-- the trees of a text's types are a version of them
+pub is_version : (pool : Texts) (d : Record) (ds : List definition.Declaration) (ids : List Identifiers) (v : Version) → d ≡ Types ds ids → IsGood d → ComesBack pool (declared_view d) → idl_types.declared v.types ≡ definitions.declared ds → v.ids.now ≡ ids → IsVersion pool v
+is_version pool d ds ids v is good back same beside =
+    let g = subst IsGood is good in
+    let b = subst (λ (x : Record). ComesBack pool (declared_view x)) is back in
+    record {
+      identified = subst (λ (l : List Identifiers). AreIdentified (idl_types.declared v.types) l) (sym beside) (subst (λ (ts : idl_types.Declared). AreIdentified ts ids) (sym same) g.1);
+      back = subst (ComeBack pool) (sym same) b;
+    }
 
 -- ---- as many records as were declared
 

@@ -17,6 +17,7 @@ use tool_types::{Declared, declare};
 use tool_verdicts::Terms;
 use tool_verdicts::versions::{Progress, Version, between, ending_of};
 use type_object::Pool;
+use xt_idl::trees_of;
 use xt_io::{Item, Sink};
 
 /// What each version of the types changes for readers and writers of the one before. The texts of the front are the versions.
@@ -46,10 +47,10 @@ fn tell_version<K: Sink>(
     ensures stops { StopsWriting (K.faults sink.old) (K.faults sink.new) result }
     ensures same { K.name sink.new ≡ K.name sink.old }
 {
-    let Some(older) = progress.older else {
+    let Some(older) = &progress.older else {
         return Ok(progress.broke);
     };
-    let Ok(report) = between(alloc, terms, pool, &older, newer) else {
+    let Ok(report) = between(alloc, terms, pool, older, newer) else {
         return Err(Stop::Halted(Halt::OutOfMemory));
     };
     say_pieces(sink, report.text.octets())?;
@@ -77,9 +78,12 @@ fn tell_record<'a, K: Sink>(
     match declared {
         Declared::Object { .. } => Ok(progress),
         Declared::Types { types, ids } => {
+            let Ok(trees) = trees_of(alloc, types.as_slice()) else {
+                return Err(Stop::Halted(Halt::OutOfMemory));
+            };
             let newer = Version {
                 number,
-                types: types.as_slice(),
+                types: trees,
                 ids: ids.as_slice(),
             };
             let broke = tell_version(alloc, terms, pool, &progress, &newer, sink)?;

@@ -1,5 +1,5 @@
 -- The types that texts declare come back from the pool of a front's objects.
-use Rattle.std.proofs.Common.{◌≡◌, refl, sym, ap, ◌∙◌, subst, ℕ, zero, suc, ◌+◌, List, [], ◌∷◌, true, Some, None, Result, Ok, Err, cond}
+use Rattle.std.proofs.Common.{◌≡◌, refl, ap, ◌∙◌, subst, ℕ, suc, ◌+◌, List, [], ◌∷◌, true, Some, None, Result, Ok, Err, cond}
 use Rattle.std.specs.Prelude.{Bool, Option, slice_get}
 use Rattle.std.proofs.lemmas.Slice.Eq.{bytes_eq-Decides}
 use Rattle.xt_io.specs.declared.Item.{Item}
@@ -10,7 +10,6 @@ use Rattle.type_trees.specs.Trees.{Tree}
 use Rattle.object_formats.specs.declared.faults.Fault.{Fault}
 use Rattle.object_formats.specs.Objects as o
 use Rattle.object_formats.specs.Objects.{Object as ObjectOf}
-use Rattle.object_formats.specs.Tables.{object_of}
 use Rattle.object_walks.specs.Resolving.{resolved}
 use Rattle.type_object.specs.Names.{named}
 use Rattle.type_object.specs.Pools as pools

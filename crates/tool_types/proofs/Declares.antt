@@ -1,21 +1,22 @@
 -- Records that are declared one after another.
-use Rattle.std.proofs.Common.{◌≡◌, ◌≢◌, ◌≤◌, arith, zero, suc, true, subst, ℕ, ◌+◌, ◌<◌, List, [], ◌∷◌, ◌++◌, map, append_assoc, append-nil, length, drop, drop_of_length-le, get_or, Some, Result, Ok, Err, IfOk, OnOk, refl, sym, ap, ◌∙◌}
+use Rattle.std.proofs.Common.{◌≡◌, ◌≢◌, ◌≤◌, arith, zero, suc, true, subst, ℕ, ◌+◌, ◌<◌, List, [], ◌∷◌, ◌++◌, map, append_assoc, append-nil, length, drop, get_or, Option, Some, None, Result, Ok, Err, IfOk, OnOk, refl, sym, ap, ◌∙◌}
 use Rattle.std.specs.Prelude.{slice_get}
 use Rattle.std.proofs.lemmas.List.{drop_more}
 use Rattle.std.proofs.Math.Seq.{drop-nil}
+use Rattle.type_trees.specs.declared.types.HashId.{HashId}
 use Rattle.type_trees.specs.declared.types.Named.{Named}
-use Rattle.type_trees.specs.View.{tree}
 use Rattle.xt_lists.specs.declared.memory.OutOfMemory.{OutOfMemory}
 use Rattle.idl_input.specs.declared.faults.IdlFault.{IdlFault}
 use Rattle.idl_input.specs.declared.faults.IdlFault.TheVariants as idl_fault
-use Rattle.object_formats.specs.declared.faults.ObjectFault.TheVariants as faults
 use Rattle.type_object.specs.Pools as pools
 use Rattle.type_object.specs.Pools.{Texts}
 use Rattle.type_object.specs.declared.pool.PoolFault.{PoolFault}
 use Rattle.type_object.specs.declared.pool.PoolFault.TheVariants as F
 use Rattle.idl_types.specs.State.{Declared, declared}
-use Rattle.type_resolve.specs.Adding.{all_added, Adds, Halts}
+use Rattle.type_resolve.specs.Adding.{after_added, all_added, Adds, Halts}
 use Rattle.type_resolve.specs.Objects.{texts}
+use Rattle.type_resolve.specs.Views.{Seen, sides, hashes_seen}
+use Rattle.type_resolve.specs.Definitions.{types_texts}
 use Rattle.type_resolve.specs.declared.sides.Identifiers.{Identifiers}
 use Rattle.tool_runs.specs.declared.output.halt.Halt.TheVariants as halts
 use Rattle.tool_runs.specs.declared.output.stop.Stop.{Stop}
@@ -37,32 +38,12 @@ use Rattle.idl_laws.specs.parsed.Laws.{ParsedIsPrintable}
 use Rattle.resolve_laws.specs.parsed.Defining.{ParsedHasObjects}
 use Rattle.type_resolve.specs.Objects.{has_objects}
 
--- the types from one on
-pub types_step : (k : ℕ) (pool new : Texts) (t : Named) (ts : List Named) → Adds pool (texts (tree t.ty)) new → spec.with_objects k pool (declared (t ∷ ts)) ≡ spec.with_objects k new (declared ts)
-unfolding spec.with_objects
-types_step k pool new t ts adds = ap (λ r. spec.with_all k r >>= λ more. spec.with_objects k more (declared ts)) adds.all
-
-types_stop : (k : ℕ) (pool new : Texts) (t : Named) (ts : List Named) (why : pools.Refusal) → all_added pool (texts (tree t.ty)) ≡ (new, Some why) → spec.with_objects k pool (declared (t ∷ ts)) ≡ Err (spec.pool_refusal k why)
-unfolding spec.with_objects
-types_stop k pool new t ts why e = ap (λ r. spec.with_all k r >>= λ more. spec.with_objects k more (declared ts)) e
-
 refused_by : (X : Type 0) (said : Result Texts Refusal) (why : Refusal) (stop : Stop) (now : Texts) → said ≡ Err why → Refuses why stop → Joins {X = X} said (Err stop) now
 refused_by X said why (stops.Refused r) now e p = e ∙ ap (λ (x : Refusal). Err x) (sym p)
 refused_by X said why (stops.Halted halt) now e p = p
 
 halted_by : (X : Type 0) (said : Result Texts Refusal) (stop : Stop) (now : Texts) → stop ≡ stops.Halted halts.OutOfMemory → Joins {X = X} said (Err stop) now
 halted_by X said stop now e = rw e refl
-
--- a type whose objects were refused
-pub types_refused : (X : Type 0) (k : ℕ) (pool new : Texts) (t : Named) (ts : List Named) (fault : PoolFault) (stop : Stop) → Halts fault pool (texts (tree t.ty)) new → IsRefusal k fault stop → Joins {X = X} (spec.with_objects k pool (declared (t ∷ ts))) (Err stop) new
-types_refused X k pool new t ts (F.Object fault) stop stopped is = refused_by X _ _ stop new (types_stop k pool new t ts _ stopped.first) is
-types_refused X k pool new t ts (F.Clash id) stop stopped is = refused_by X _ _ stop new (types_stop k pool new t ts _ stopped.first) is
-types_refused X k pool new t ts F.Full stop stopped is = refused_by X _ _ stop new (types_stop k pool new t ts _ stopped.first) is
-types_refused X k pool new t ts F.OutOfMemory stop stopped is = halted_by X _ stop new is
-
-pub types_end : (k : ℕ) (pool : Texts) → spec.with_objects k pool (declared []) ≡ Ok pool
-unfolding spec.with_objects
-types_end k pool = refl
 
 pub next_type : (types : List Named) (i : ℕ) (t : Named) → i < length types → t ≡ get_or types i t → drop i types ≡ t ∷ drop (i + 1) types
 next_type types i t lt is = drop_more types i t lt ∙ ap (λ (x : Named). x ∷ drop (i + 1) types) (sym is)
@@ -152,36 +133,75 @@ next_item items i t lt is = drop_more items i t lt ∙ ap (λ (x : Item). x ∷ 
 -- ---- what is declared is good
 
 -- Each type that a text declares has objects and is valid.
-good_from : (ts : List Named) (known : Declared) → ((at : ℕ) (full : Text) (t : Tree) → slice_get (declared ts) at ≡ Some (full, t) → has_objects t ≡ true) → AreDefinitions known (declared ts) → AreGood ts
+good_from : (ts known : Declared) → ((at : ℕ) (full : Text) (t : Tree) → slice_get ts at ≡ Some (full, t) → has_objects t ≡ true) → AreDefinitions known ts → AreGood ts
 good_from [] known objects defined = tt
-good_from (t ∷ ts) known objects defined = (objects 0 t.name (tree t.ty) refl, (defined.0, good_from ts (known ++ (t.name, tree t.ty) ∷ []) (λ at. objects (suc at)) defined.1.1.1))
+good_from (t ∷ ts) known objects defined = (objects 0 t.0 t.1 refl, (defined.0, good_from ts (known ++ t ∷ []) (λ at. objects (suc at)) defined.1.1.1))
 
-pub text_good : (text : List ℕ) (ts : List Named) → ParsedHasObjects → ParsedIsPrintable → idl text ≡ Ok (declared ts) → AreGood ts
-text_good text ts objects printable e = good_from ts [] (λ at full t is. objects text (declared ts) at full t e is) (printable text (declared ts) e).defined
-
-pub good_next : (types : List Named) (i : ℕ) (t : Named) → drop i types ≡ t ∷ drop (i + 1) types → AreGood (drop i types) → (has_objects (tree t.ty) ≡ true) × AreGood (drop (i + 1) types)
-good_next types i t e good = let g = subst AreGood e good in (g.0, g.1.1)
-
--- one more type has its identifiers
-pub identified_on : (types : List Named) (i : ℕ) (t : Named) (ids after : List Identifiers) (found : Identifiers) → drop i types ≡ t ∷ drop (i + 1) types → ((more : List Identifiers) → AreIdentified (drop i types) more → AreIdentified types (ids ++ more)) → Identifies (tree t.ty) found → after ≡ ids ++ found ∷ []
-    → (more : List Identifiers) → AreIdentified (drop (i + 1) types) more → AreIdentified types (after ++ more)
-identified_on types i t ids after found next before is same more rest =
-    let here = before (found ∷ more) (subst (λ (ts : List Named). AreIdentified ts (found ∷ more)) (sym next) (is, rest)) in
-    subst (AreIdentified types) (sym (append_assoc ids (found ∷ []) more) ∙ ap (λ (l : List Identifiers). l ++ more) (sym same)) here
-
--- all of them have
-pub identified_all : (types : List Named) (i : ℕ) (ids : List Identifiers) → length types ≤ i → ((more : List Identifiers) → AreIdentified (drop i types) more → AreIdentified types (ids ++ more)) → AreIdentified types ids
-identified_all types i ids over before =
-    let none = subst (λ (ts : List Named). AreIdentified ts []) (sym (drop_of_length-le types over)) tt in
-    subst (AreIdentified types) (append-nil ids) (before [] none)
+pub text_good : (text : List ℕ) (ts : Declared) → ParsedHasObjects → ParsedIsPrintable → idl text ≡ Ok ts → AreGood ts
+text_good text ts objects printable e = good_from ts [] (λ at full t is. objects text ts at full t e is) (printable text ts e).defined
 
 -- the next type and its identifiers are passed over
-pub identified_next : (i : ℕ) (types : List Named) (ids : List Identifiers) → i < length types → AreIdentified (drop i types) (drop i ids) → AreIdentified (drop (suc i) types) (drop (suc i) ids)
+pub identified_next : (i : ℕ) (types : List Named) (ids : List Identifiers) → i < length types → AreIdentified (declared (drop i types)) (drop i ids) → AreIdentified (declared (drop (suc i) types)) (drop (suc i) ids)
 identified_next i [] ids lt p = absurd (omega arith)
 identified_next zero (t ∷ types) [] lt p = absurd p
 identified_next zero (t ∷ types) (d ∷ ids) lt p = p.1
-identified_next (suc i) (t ∷ types) [] lt p = identified_next i types [] (omega arith) (subst (AreIdentified (drop i types)) (sym (drop-nil i)) p)
+identified_next (suc i) (t ∷ types) [] lt p = identified_next i types [] (omega arith) (subst (AreIdentified (declared (drop i types))) (sym (drop-nil i)) p)
 identified_next (suc i) (t ∷ types) (d ∷ ids) lt p = identified_next i types ids (omega arith) p
+
+-- ---- all texts at once
+
+abbrev added_behind : Texts × Option pools.Refusal → List (List ℕ) → Texts × Option pools.Refusal
+added_behind (pool, None) ys = all_added pool ys
+added_behind (pool, Some why) ys = (pool, Some why)
+
+text_behind : (pool : Texts) (r : Result (HashId × Texts) pools.Refusal) (xs ys : List (List ℕ)) → ((next : Texts) → all_added next (xs ++ ys) ≡ added_behind (all_added next xs) ys)
+    → after_added pool r (λ next. all_added next (xs ++ ys)) ≡ added_behind (after_added pool r (λ next. all_added next xs)) ys
+text_behind pool (Ok x) xs ys rest = rest x.1
+text_behind pool (Err why) xs ys rest = refl
+
+-- texts are added one list behind another
+texts_behind : (pool : Texts) (xs ys : List (List ℕ)) → all_added pool (xs ++ ys) ≡ added_behind (all_added pool xs) ys
+unfolding all_added
+texts_behind pool [] ys = refl
+texts_behind pool (x ∷ xs) ys = text_behind pool (pools.added pool x) xs ys (λ next. texts_behind next xs ys)
+
+each_behind : (k : ℕ) (ts : Declared) (r : Texts × Option pools.Refusal) → ((next : Texts) → spec.with_objects k next ts ≡ spec.with_all k (all_added next (types_texts ts)))
+    → (let said : Result Texts Refusal = spec.with_all k r >>= λ more. spec.with_objects k more ts in said) ≡ spec.with_all k (added_behind r (types_texts ts))
+each_behind k ts (next, None) rest = rest next
+each_behind k ts (next, Some why) rest = refl
+
+-- The objects of types are added as their texts are, one type after another.
+pub added_together : (k : ℕ) (pool : Texts) (ts : Declared) → spec.with_objects k pool ts ≡ spec.with_all k (all_added pool (types_texts ts))
+unfolding spec.with_objects all_added
+added_together k pool [] = refl
+added_together k pool (t ∷ ts) = each_behind k ts (all_added pool (texts t.1)) (λ next. added_together k next ts) ∙ ap (spec.with_all k) (sym (texts_behind pool (texts t.1) (types_texts ts)))
+
+-- all of them were added
+pub together_added : (k : ℕ) (pool new : Texts) (ts : Declared) → Adds pool (types_texts ts) new → spec.with_objects k pool ts ≡ Ok new
+together_added k pool new ts adds = added_together k pool ts ∙ ap (spec.with_all k) adds.all
+
+together_stopped : (k : ℕ) (pool new : Texts) (ts : Declared) (why : pools.Refusal) → all_added pool (types_texts ts) ≡ (new, Some why) → spec.with_objects k pool ts ≡ Err (spec.pool_refusal k why)
+together_stopped k pool new ts why e = added_together k pool ts ∙ ap (spec.with_all k) e
+
+-- one of them was refused
+pub together_refused : (X : Type 0) (k : ℕ) (pool new : Texts) (ts : Declared) (fault : PoolFault) (stop : Stop) → Halts fault pool (types_texts ts) new → IsRefusal k fault stop → Joins {X = X} (spec.with_objects k pool ts) (Err stop) new
+together_refused X k pool new ts (F.Object fault) stop stopped is = refused_by X _ _ stop new (together_stopped k pool new ts _ stopped.first) is
+together_refused X k pool new ts (F.Clash id) stop stopped is = refused_by X _ _ stop new (together_stopped k pool new ts _ stopped.first) is
+together_refused X k pool new ts F.Full stop stopped is = refused_by X _ _ stop new (together_stopped k pool new ts _ stopped.first) is
+together_refused X k pool new ts F.OutOfMemory stop stopped is = halted_by X _ stop new is
+
+identified_as : (t : Tree) (ids : Identifiers) → sides t ≡ hashes_seen ids → Identifies t ids
+identified_as t ids e = record { minimal = ap (λ (s : Seen). s.1) e; complete = ap (λ (s : Seen). s.2) e }
+
+-- what types are named by are their identifiers
+pub identified_together : (ts : Declared) (ids : List Identifiers) → map hashes_seen ids ≡ map (λ t. sides t.1) ts → AreIdentified ts ids
+identified_together [] [] e = tt
+identified_together [] (d ∷ ids) e = absurd cc
+identified_together (t ∷ ts) [] e = absurd cc
+identified_together (t ∷ ts) (d ∷ ids) e =
+    let here : hashes_seen d ≡ sides t.1 = cc in
+    let rest : map hashes_seen ids ≡ map (λ (x : Text × Tree). sides x.1) ts = cc in
+    (identified_as t.1 d (sym here), identified_together ts ids rest)
 
 pub within_next : (items : List Item) (i : ℕ) (t : Item) → drop i items ≡ t ∷ drop (i + 1) items → AreWithin (drop i items) → (length t.payload ≤ limit_of t.kind) × AreWithin (drop (i + 1) items)
 within_next items i t e within = subst AreWithin e within

@@ -1,5 +1,5 @@
 -- The types that texts declare come back from the pool of a front's objects (this profile's own).
-use Rattle.std.specs.Prelude.{◌≡◌, true, List, [], ◌∷◌, Result, Ok}
+use Rattle.std.specs.Prelude.{◌≡◌, true, List, [], ◌∷◌, Ok}
 use Rattle.xt_io.specs.declared.Item.{Item}
 use Rattle.type_trees.specs.declared.types.HashId.{HashId}
 use Rattle.object_formats.specs.Objects as o

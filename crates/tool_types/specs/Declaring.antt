@@ -1,7 +1,5 @@
 -- What the records of a front declare, as the program holds it (this profile's own).
 use Rattle.std.specs.Prelude.{◌≡◌, ℕ, true, false, List, [], ◌∷◌, None, Result, Ok, Err}
-use Rattle.type_trees.specs.declared.types.Named.{Named}
-use Rattle.type_trees.specs.View.{tree}
 use Rattle.type_trees.specs.Trees.{Tree}
 use Rattle.type_rules.specs.Valid.{type_fault}
 use Rattle.object_formats.specs.Objects as o
@@ -12,6 +10,7 @@ use Rattle.type_object.specs.Pools.{Texts}
 use Rattle.type_object.specs.declared.pool.PoolFault.{PoolFault}
 use Rattle.type_object.specs.declared.pool.PoolFault.TheVariants as F
 use Rattle.idl_types.specs.State as idl_types
+use Rattle.idl_types.specs.Definitions as definitions
 use Rattle.idl_input.specs.declared.faults.IdlFault.{IdlFault}
 use Rattle.idl_input.specs.declared.faults.IdlFault.TheVariants as idl_fault
 use Rattle.tool_types.specs.Types.{idl_fault_text}
@@ -25,7 +24,7 @@ use Rattle.tool_types.specs.declared.declaring.Declared.{Declared}
 use Rattle.tool_types.specs.declared.declaring.Declared.TheVariants.{Types, Object}
 
 abbrev pub declared_view : Declared → spec.Declared
-declared_view (Types named ids) = spec.types (idl_types.declared named)
+declared_view (Types ds ids) = spec.types (definitions.declared ds)
 declared_view (Object id name) = spec.object id name
 
 -- the identifiers of a type's minimal and complete objects
@@ -34,20 +33,20 @@ pub record Identifies (t : Tree) (ids : Identifiers) : Type 0 where
   pub complete : identifier true t ≡ o.hash ids.complete
 
 -- one after another, of as many types
-abbrev pub AreIdentified : List Named → List Identifiers → Type 0
+abbrev pub AreIdentified : idl_types.Declared → List Identifiers → Type 0
 AreIdentified [] [] = Unit {0}
 AreIdentified [] (ids ∷ more) = ⊥
 AreIdentified (t ∷ ts) [] = ⊥
-AreIdentified (t ∷ ts) (ids ∷ more) = Identifies (tree t.ty) ids × AreIdentified ts more
+AreIdentified (t ∷ ts) (ids ∷ more) = Identifies t.1 ids × AreIdentified ts more
 
 -- each type has objects of its own, and is valid
-abbrev pub AreGood : List Named → Type 0
+abbrev pub AreGood : idl_types.Declared → Type 0
 AreGood [] = Unit {0}
-AreGood (t ∷ ts) = (has_objects (tree t.ty) ≡ true) × ((type_fault (tree t.ty) ≡ None) × AreGood ts)
+AreGood (t ∷ ts) = (has_objects t.1 ≡ true) × ((type_fault t.1 ≡ None) × AreGood ts)
 
 -- each type of what a record declares is valid, and its identifiers stand beside it
 abbrev pub IsGood : Declared → Type 0
-IsGood (Types named ids) = AreGood named × AreIdentified named ids
+IsGood (Types ds ids) = AreGood (definitions.declared ds) × AreIdentified (definitions.declared ds) ids
 IsGood (Object id name) = Unit {0}
 
 abbrev pub AllGood : List Declared → Type 0

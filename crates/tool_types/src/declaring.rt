@@ -1,13 +1,13 @@
 ghost use Rattle.std.specs.Prelude.{◌≡◌, ◌≤◌, [], IfOk, length, map};
 ghost use Rattle.std.specs.Option.{option_map};
-ghost use Rattle.idl_types.specs.State as idl_types;
+ghost use Rattle.idl_types.specs.Definitions.{declared};
 ghost use Rattle.object_formats.specs.View as view;
 ghost use Rattle.type_object.specs.Pools.{added};
 ghost use Rattle.tool_runs.specs.output.Runs.{Comes};
 ghost use Rattle.xt_io.specs.Bundles.{limit_of};
 ghost use Rattle.tool_runs.specs.front.Reading.{AreWithin};
 ghost use Rattle.tool_types.specs.Types as spec;
-ghost use Rattle.tool_types.specs.Declaring.{AllGood, AreGood, AreIdentified, IsGood, declared_view, Leaves, Joins};
+ghost use Rattle.tool_types.specs.Declaring.{AllGood, AreIdentified, IsGood, declared_view, Leaves, Joins};
 ghost use Rattle.tool_types.specs.Coming.{AllComeBack};
 
 use crate::laws::declared_comes_back;
@@ -16,20 +16,20 @@ use idl_laws::parsed::parsed_is_printable;
 use object_formats::TypeObject;
 use resolve_laws::parsed::parsed_has_objects;
 use std::alloc::Global;
-use std::mem;
 use tool_runs::output::{Halt, Stop};
 use type_object::Pool;
-use type_resolve::{Identifiers, Making};
-use type_trees::{HashId, Named};
-use xt_idl::parse;
+use type_resolve::{Identifiers, objects_declared};
+use type_trees::HashId;
+use type_values::copy_optional_text;
+use xt_idl::{Declarations, declarations};
 use xt_io::{Item, Kind};
 use xt_lists::{OutOfMemory, Row, Text};
 
 /// What a record of a front declares: the types of a text with their identifiers, or an object's identifier and its type's name.
-#[derive(Debug, Drop)]
+#[derive(Drop)]
 pub enum Declared {
     Types {
-        types: Row<Named>,
+        types: Declarations,
         ids: Row<Identifiers>,
     },
     Object {
@@ -38,42 +38,21 @@ pub enum Declared {
     },
 }
 
-// Adds the objects of types, one type after another, and gives the identifiers.
-fn add_each<'a>(
-    alloc: Global,
-    number: u32,
-    types: &'a [Named],
-    making: &mut Making<'a>,
-) -> Result<Row<Identifiers>, Stop>
-    requires { AreGood types.now }
-    ensures joins { Joins (spec.with_objects number making.old (idl_types.declared types.now)) result making.new }
-    ensures identified { IfOk result (AreIdentified types.now) }
-{
-    let mut ids = Row::new(alloc);
-    for named in types {
-        match making.add_type(alloc, named) {
-            Ok(found) => ids.push(found)?,
-            Err(fault) => return Err(refuse_pool(alloc, number, fault)),
-        }
-    }
-    Ok(ids)
-}
-
-// The same, where no type is made twice.
+// Adds the objects of the types of a text, one type after another, and gives the identifiers.
+#[tactic(auto, using(crate::proofs::Declares::together_added, crate::proofs::Declares::together_refused, crate::proofs::Declares::identified_together))]
 fn with_objects(
     alloc: Global,
     number: u32,
-    types: &[Named],
+    types: &Declarations,
     pool: &mut Pool,
 ) -> Result<Row<Identifiers>, Stop>
-    requires { AreGood types.now }
-    ensures joins { Joins (spec.with_objects number pool.old (idl_types.declared types.now)) result pool.new }
-    ensures identified { IfOk result (AreIdentified types.now) }
+    ensures joins { Joins (spec.with_objects number pool.old (declared types.now)) result pool.new }
+    ensures identified { IfOk result (AreIdentified (declared types.now)) }
 {
-    let mut making = Making::new(alloc, mem::replace(pool, Pool::new(alloc)));
-    let ids = add_each(alloc, number, types, &mut making);
-    *pool = making.take(alloc);
-    ids
+    match objects_declared(alloc, types.as_slice(), pool) {
+        Ok(ids) => Ok(ids),
+        Err(fault) => Err(refuse_pool(alloc, number, fault)),
+    }
 }
 
 fn declare_text(alloc: Global, number: u32, text: &[u8], pool: &mut Pool) -> Result<Declared, Stop>
@@ -83,22 +62,13 @@ fn declare_text(alloc: Global, number: u32, text: &[u8], pool: &mut Pool) -> Res
 {
     parsed_has_objects();
     parsed_is_printable();
-    let types = match parse(alloc, text) {
+    let types = match declarations(alloc, text) {
         Ok(types) => types,
         Err(fault) => return Err(refuse_idl(alloc, number, fault)),
     };
-    match with_objects(alloc, number, types.as_slice(), pool) {
+    match with_objects(alloc, number, &types, pool) {
         Ok(ids) => Ok(Declared::Types { types, ids }),
         Err(stop) => Err(stop),
-    }
-}
-
-fn copy_name(alloc: Global, name: &Option<Text>) -> Result<Option<Text>, OutOfMemory>
-    ensures { IfOk result (λ copy. copy ≡ name.now) }
-{
-    match name {
-        Some(text) => Ok(Some(Text::from_octets(alloc, text.octets())?)),
-        None => Ok(None),
     }
 }
 
@@ -118,7 +88,7 @@ fn name_in(alloc: Global, object: Option<&TypeObject>) -> Result<Option<Text>, O
     ensures { IfOk result (λ name. spec.name_in (option_map (λ o. view.object o.now) object.entry) ≡ name) }
 {
     match object {
-        Some(object) => copy_name(alloc, name_of(object)),
+        Some(object) => copy_optional_text(alloc, name_of(object)),
         None => Ok(None),
     }
 }

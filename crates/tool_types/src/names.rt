@@ -4,6 +4,6 @@ mod meanings;
 mod named;
 mod refusals;
 
-pub use meanings::{DeclaredType, Meaning, meant, type_by_name};
+pub use meanings::{DeclaredType, Meaning, meant};
 pub use named::{NamedType, id_named, pair_named, top_named, type_named};
 pub use refusals::{refuse_top, refuse_walk};

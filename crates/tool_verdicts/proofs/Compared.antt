@@ -3,23 +3,19 @@ use Rattle.std.proofs.Common.{◌≡◌, ℕ, ◌+◌, ◌<◌, List, [], ◌∷
 use Rattle.std.specs.Prelude.{Bool, ◌||◌, IfSome, Option}
 use Rattle.std.specs.Option.{option_map}
 use Rattle.std.proofs.lemmas.List.{drop_more}
-use Rattle.type_trees.specs.declared.types.HashId.{HashId}
 use Rattle.type_trees.specs.declared.types.Named.{Named}
-use Rattle.type_trees.specs.Trees.{Tree}
 use Rattle.type_trees.specs.View.{tree}
 use Rattle.object_walks.specs.Resolving.{resolved}
 use Rattle.type_object.specs.Pools.{Texts}
 use Rattle.type_resolve.specs.declared.sides.Identifiers.{Identifiers}
-use Rattle.idl_types.specs.State as idl_types
 use Rattle.idl_types.specs.State.{declared}
 use Rattle.tool_types.specs.Coming.{ComeBack}
-use Rattle.tool_types.specs.Declaring.{AreGood, AreIdentified, Identifies}
-use Rattle.tool_types.specs.names.Meanings.{IsSoundType, tree_of}
+use Rattle.tool_types.specs.Declaring.{AreIdentified, Identifies}
 use Rattle.tool_types.specs.names.Names.{type_by_name}
-use Rattle.tool_types.specs.declared.names.meanings.DeclaredType.{DeclaredType}
 use Rattle.tool_types.proofs.OfNames.Identified.{name_back}
 use Rattle.tool_verdicts.specs.Versions.{Finding, any_breaks, breaks, each, finding_line}
-use Rattle.tool_verdicts.specs.Reports.{Reports, lines_of}
+use Rattle.tool_verdicts.specs.Reports.{Reports, lines_of, tree_of}
+use Rattle.tool_verdicts.specs.declared.versions.lookup.VersionType.{VersionType}
 use Rattle.tool_verdicts.specs.declared.versions.reports.Report.{Report}
 
 -- ---- reports
@@ -65,17 +61,17 @@ pub next_type : (types : List Named) (i : ℕ) (t : Named) → i < length types 
 next_type types i t lt is = drop_more types i t lt ∙ ap (λ (x : Named). x ∷ drop (i + 1) types) (sym is)
 
 -- the type that a version has under a name comes back
-pub named_back : (pool : Texts) (name : List ℕ) (types : List Named) (found : DeclaredType) → ComeBack pool (declared types) → type_by_name name (declared types) ≡ Some (tree_of found) → IsSoundType found → resolved pool found.ids.complete ≡ Ok (tree_of found)
-named_back pool name types found all is sound = name_back pool name (declared types) (tree_of found) found.ids.complete all is sound.identified.complete
+pub named_back : (pool : Texts) (name : List ℕ) (types : List Named) (found : VersionType) → ComeBack pool (declared types) → type_by_name name (declared types) ≡ Some (tree_of found) → Identifies (tree_of found) found.ids → resolved pool found.ids.complete ≡ Ok (tree_of found)
+named_back pool name types found all is identified = name_back pool name (declared types) (tree_of found) found.ids.complete all is identified.complete
 
-pub found_back : (pool : Texts) (name : List ℕ) (types : List Named) (found : Option DeclaredType) → ComeBack pool (declared types) → option_map tree_of found ≡ type_by_name name (declared types) → IfSome found IsSoundType → IfSome found (λ it. resolved pool it.ids.complete ≡ Ok (tree_of it))
-found_back pool name types None all is sound = tt
-found_back pool name types (Some found) all is sound = named_back pool name types found all (sym is) sound
+pub found_back : (pool : Texts) (name : List ℕ) (types : List Named) (found : Option VersionType) → ComeBack pool (declared types) → option_map tree_of found ≡ type_by_name name (declared types) → IfSome found (λ it. Identifies (tree_of it) it.ids) → IfSome found (λ it. resolved pool it.ids.complete ≡ Ok (tree_of it))
+found_back pool name types None all is identified = tt
+found_back pool name types (Some found) all is identified = named_back pool name types found all (sym is) identified
 
 -- the type at a place comes back by its identifier
-pub place_back : (pool : Texts) (types : List Named) (ids : List Identifiers) (t : Named) (d : Identifiers) (ts : List Named) (ds : List Identifiers) → types ≡ t ∷ ts → ids ≡ d ∷ ds → AreIdentified types ids → ComeBack pool (declared types) → resolved pool d.complete ≡ Ok (tree t.ty)
+pub place_back : (pool : Texts) (types : List Named) (ids : List Identifiers) (t : Named) (d : Identifiers) (ts : List Named) (ds : List Identifiers) → types ≡ t ∷ ts → ids ≡ d ∷ ds → AreIdentified (declared types) ids → ComeBack pool (declared types) → resolved pool d.complete ≡ Ok (tree t.ty)
 place_back pool types ids t d ts ds e f identified back =
-    let here = subst (λ (l : List Identifiers). AreIdentified (t ∷ ts) l) f (subst (λ (l : List Named). AreIdentified l ids) e identified) in
+    let here = subst (λ (l : List Identifiers). AreIdentified (declared (t ∷ ts)) l) f (subst (λ (l : List Named). AreIdentified (declared l) ids) e identified) in
     (subst (λ (l : List Named). ComeBack pool (declared l)) e back).0 d.complete here.0.complete
 
 pub back_behind : (pool : Texts) (types : List Named) (t : Named) (ts : List Named) → types ≡ t ∷ ts → ComeBack pool (declared types) → ComeBack pool (declared ts)

@@ -2,6 +2,7 @@
 
 mod changes;
 mod comparing;
+mod lookup;
 mod progress;
 mod reports;
 

@@ -1,17 +1,18 @@
 -- What is known of types stays true as texts are added, and adding their texts again changes nothing.
 use Rattle.std.proofs.Common.{◌≡◌, ℕ, List, [], ◌∷◌, Option, Some, None, refl, sym, ap, subst, ◌∙◌}
-use Rattle.std.specs.Prelude.{cond, Result, Ok, Err, IfOk, OnErr, IfSome, ◌<◌, length}
+use Rattle.std.specs.Prelude.{cond, Result, Ok, Err, IfSome, ◌<◌, length}
 use lib.ListN.{get_or}
 use Rattle.std.proofs.lemmas.Slice.Eq.{bytes_eq-Decides}
 use Rattle.type_trees.specs.declared.types.HashId.{HashId}
 use Rattle.type_trees.specs.Trees.{Tree}
 use Rattle.type_trees.specs.View.{tree}
 use Rattle.type_object.specs.Names.{named}
-use Rattle.type_object.specs.Pools.{Texts, Refusal, clash, put, added, added_so}
+use Rattle.type_object.specs.Pools.{Texts, Refusal, clash, found, put, added, added_so}
 use Rattle.type_object.specs.declared.pool.PoolFault.{PoolFault}
-use Rattle.type_resolve.specs.Adding.{after_added, all_added, Adds}
+use Rattle.type_object.specs.declared.pool.PoolFault.TheVariants as F
+use Rattle.type_resolve.specs.Adding.{after_added, all_added, Adds, Halts}
 use Rattle.type_resolve.specs.Objects.{texts}
-use Rattle.type_resolve.specs.Views.{sides, hashes_seen}
+use Rattle.type_resolve.specs.Views.{Stores, sides, hashes_seen}
 use Rattle.type_resolve.specs.declared.sides.Identifiers.{Identifiers}
 use Rattle.type_resolve.specs.Held.{IsHeld, AreHeld, Keeps}
 use Rattle.type_resolve.specs.Known.{IsKnown, AreKnown}
@@ -55,9 +56,26 @@ kept_so old new k keeps h = record { held = held_kept old new _ keeps h.held; na
 pub all_kept : (old new : Texts) (ks : List Known) → Keeps old new → AreKnown old ks → AreKnown new ks
 all_kept old new ks keeps h = λ i d lt. kept_so old new _ keeps (h i d lt)
 
-pub known_after : (r : Result HashId PoolFault) (old new : Texts) (bs : List ℕ) (ks : List Known) → IfOk r (λ id. added old bs ≡ Ok (id, new)) → OnErr r (new ≡ old) → AreKnown old ks → AreKnown new ks
-known_after (Ok id) old new bs ks ok same h = all_kept old new ks (is_added old new id bs ok).keeps h
-known_after (Err f) old new bs ks ok same h = subst (λ p. AreKnown p ks) (sym same) h
+after_keeps : (r : Result (HashId × Texts) Refusal) (old new : Texts) (t : List ℕ) (ts : List (List ℕ)) (why : Option Refusal) → ((mid : Texts) → all_added mid ts ≡ (new, why) → Keeps mid new)
+    → added old t ≡ r → after_added old r (λ p. all_added p ts) ≡ (new, why) → Keeps old new
+after_keeps (Ok r) old new t ts why more is e = let one = is_added old r.1 r.0 t is in λ id bs k. more r.1 e id bs (one.keeps id bs k)
+after_keeps (Err f) old new t ts why more is e = let same : old ≡ new = ap (λ (p : Texts × Option Refusal). p.0) e in λ id bs k. subst (λ p. found id p ≡ Some bs) same k
+
+-- what was found is found after texts are added, up to one that is refused too
+keeps_all : (old new : Texts) (ts : List (List ℕ)) (why : Option Refusal) → all_added old ts ≡ (new, why) → Keeps old new
+unfolding all_added
+keeps_all old new [] why e = let same : old ≡ new = ap (λ (p : Texts × Option Refusal). p.0) e in λ id bs k. subst (λ p. found id p ≡ Some bs) same k
+keeps_all old new (t ∷ ts) why e = after_keeps (added old t) old new t ts why (λ mid k. keeps_all mid new ts why k) refl e
+
+halts_keep : (fault : PoolFault) (old new : Texts) (ts : List (List ℕ)) → Halts fault old ts new → Keeps old new
+halts_keep (F.Object fault) old new ts h = keeps_all old new ts _ h.first
+halts_keep (F.Clash id) old new ts h = keeps_all old new ts _ h.first
+halts_keep F.Full old new ts h = keeps_all old new ts _ h.first
+halts_keep F.OutOfMemory old new ts h = keeps_all old new h.before None h.adds.all
+
+pub known_stored : {X Y : Type 0} (view : X → Y) (r : Result X PoolFault) (old new : Texts) (ts : List (List ℕ)) (y : Y) (ks : List Known) → Stores view r old ts new y → AreKnown old ks → AreKnown new ks
+known_stored view (Ok x) old new ts y ks h known = all_kept old new ks (keeps_all old new ts None h.0.all) known
+known_stored view (Err f) old new ts y ks h known = all_kept old new ks (halts_keep f old new ts h) known
 
 known_so : (pool : Texts) (k : Known) (r : Option Identifiers) (t : Tree) → IsKnown pool k → IfSome r (λ ids. (ids ≡ k.ids) × (tree k.ty.now ≡ t)) → IfSome r (λ ids. Adds pool (texts t) pool × (hashes_seen ids ≡ sides t))
 known_so pool k None t h e = tt

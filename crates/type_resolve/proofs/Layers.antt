@@ -26,12 +26,12 @@ use Rattle.type_resolve.proofs.Steps.{forms_stored}
 
 -- ---- some of the members
 
-parts_are : (c : Bool) (ms : List (MemberHead × Tree)) → member_parts c (members_of ms) ≡ map (λ m. member_part c m.0 (identifier c m.1)) ms
+pub parts_are : (c : Bool) (ms : List (MemberHead × Tree)) → member_parts c (members_of ms) ≡ map (λ m. member_part c m.0 (identifier c m.1)) ms
 unfolding member_parts
 parts_are c [] = refl
 parts_are c (m ∷ ms) = ap (λ ps. member_part c m.0 (identifier c m.1) ∷ ps) (parts_are c ms)
 
-texts_are : (ms : List (MemberHead × Tree)) → member_texts (members_of ms) ≡ map (λ m. texts m.1) ms
+pub texts_are : (ms : List (MemberHead × Tree)) → member_texts (members_of ms) ≡ map (λ m. texts m.1) ms
 unfolding member_texts
 texts_are [] = refl
 texts_are (m ∷ ms) = ap (λ ts. texts m.1 ∷ ts) (texts_are ms)

@@ -13,3 +13,9 @@ pub mod Resolves
 pub mod Valid
 pub mod Again
 pub mod Known
+pub mod Places
+pub mod Front
+pub mod Flattened
+pub mod HeldUses
+pub mod OneMore
+pub mod Turns

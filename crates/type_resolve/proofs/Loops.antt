@@ -4,7 +4,7 @@ use Rattle.std.proofs.lemmas.List.{append-nil, drop_more}
 use Rattle.std.specs.Prelude.{Bool, true, false, Result}
 use Rattle.type_trees.specs.declared.types.Member.{Member}
 use Rattle.type_trees.specs.declared.types.Case.{Case}
-use Rattle.type_trees.specs.Trees.{CaseHead, Tree, Members, no_members, no_cases}
+use Rattle.type_trees.specs.Trees.{MemberHead, CaseHead, Tree, Members, no_members, no_cases}
 use Rattle.type_trees.specs.View.{tree, member_tree, case_tree, members_tree, cases_tree}
 use Rattle.type_trees.proofs.Views.{case_tree_is}
 use Rattle.object_formats.specs.Objects.{MemberPart, CasePart}
@@ -114,11 +114,12 @@ module _ (old now : Texts) (cs : List Case) (i : ℕ) (made : Parts CasePart) (o
   cases_done = done case_texts (λ c. case_parts c) old now (cases_tree cs) (cases_tree (drop i cs)) made (ap case_texts no_case_left) (ap (case_parts false) no_case_left) (ap (case_parts true) no_case_left) h
 
 module _ (old now : Texts) (members : List Member) (i : ℕ) (m : Member) (lt : i < length members) (is : m ≡ get_or members i m) (made : Parts MemberPart) (h : SoFar needed (λ c. member_parts c) old now (members_tree members) (members_tree (drop i members)) made) where
-  pub members_on : (new : Texts) (ty : Seen) (more : Parts MemberPart) → Adds now (texts (member_tree m).1) new → ty ≡ sides (member_tree m).1
-      → more.0 ≡ made.0 ++ member_part false (member_tree m).0 ty.1 ∷ [] → more.1 ≡ made.1 ++ member_part true (member_tree m).0 ty.2 ∷ [] → SoFar needed (λ c. member_parts c) old new (members_tree members) (members_tree (drop (i + 1) members)) more
-  members_on new ty more adds e first second =
+  pub members_on : (new : Texts) (ty : Seen) (head : MemberHead) (more : Parts MemberPart) → head ≡ (member_tree m).0 → Adds now (texts (member_tree m).1) new → ty ≡ sides (member_tree m).1
+      → more.0 ≡ made.0 ++ member_part false head ty.1 ∷ [] → more.1 ≡ made.1 ++ member_part true head ty.2 ∷ [] → SoFar needed (λ c. member_parts c) old new (members_tree members) (members_tree (drop (i + 1) members)) more
+  members_on new ty head more here adds e first second =
       goes_on needed (λ c. member_parts c) old now new (members_tree members) (members_tree (drop i members)) (members_tree (drop (i + 1) members)) made more (texts (member_tree m).1) _ _ (member_next members i m lt is) h adds
-      (first ∙ ap (λ (s : Seen). made.0 ++ member_part false (member_tree m).0 s.1 ∷ []) e) (second ∙ ap (λ (s : Seen). made.1 ++ member_part true (member_tree m).0 s.2 ∷ []) e)
+      (first ∙ ap (λ (g : MemberHead). made.0 ++ member_part false g ty.1 ∷ []) here ∙ ap (λ (s : Seen). made.0 ++ member_part false (member_tree m).0 s.1 ∷ []) e)
+      (second ∙ ap (λ (g : MemberHead). made.1 ++ member_part true g ty.2 ∷ []) here ∙ ap (λ (s : Seen). made.1 ++ member_part true (member_tree m).0 s.2 ∷ []) e)
 
   pub members_end : (fault : PoolFault) (new : Texts) → Halts fault now (texts (member_tree m).1) new → Halts fault old (needed (members_tree members)) new
   members_end fault new k = ends needed (λ c. member_parts c) fault old now new (members_tree members) (members_tree (drop i members)) (members_tree (drop (i + 1) members)) made (texts (member_tree m).1) _ _ (member_next members i m lt is) h k
@@ -130,11 +131,12 @@ pub members_start : (old : Texts) (members : List Member) (made : Parts MemberPa
 members_start old members made e = subst (λ m. SoFar needed (λ c. member_parts c) old old (members_tree members) (members_tree members) m) (sym e) (at_start needed (λ c. member_parts c) old (members_tree members))
 
 module _ (old now : Texts) (cases : List Case) (i : ℕ) (m : Case) (lt : i < length cases) (is : m ≡ get_or cases i m) (made : Parts CasePart) (h : SoFar case_texts (λ c. case_parts c) old now (cases_tree cases) (cases_tree (drop i cases)) made) where
-  pub cases_on : (new : Texts) (ty : Seen) (more : Parts CasePart) → Adds now (texts (tree m.ty)) new → ty ≡ sides (tree m.ty)
-      → more.0 ≡ made.0 ++ case_part false (case_tree m).0 ty.1 ∷ [] → more.1 ≡ made.1 ++ case_part true (case_tree m).0 ty.2 ∷ [] → SoFar case_texts (λ c. case_parts c) old new (cases_tree cases) (cases_tree (drop (i + 1) cases)) more
-  cases_on new ty more adds e first second =
+  pub cases_on : (new : Texts) (ty : Seen) (head : CaseHead) (more : Parts CasePart) → head ≡ (case_tree m).0 → Adds now (texts (tree m.ty)) new → ty ≡ sides (tree m.ty)
+      → more.0 ≡ made.0 ++ case_part false head ty.1 ∷ [] → more.1 ≡ made.1 ++ case_part true head ty.2 ∷ [] → SoFar case_texts (λ c. case_parts c) old new (cases_tree cases) (cases_tree (drop (i + 1) cases)) more
+  cases_on new ty head more here adds e first second =
       goes_on case_texts (λ c. case_parts c) old now new (cases_tree cases) (cases_tree (drop i cases)) (cases_tree (drop (i + 1) cases)) made more (texts (tree m.ty)) _ _ (case_next cases i m lt is) h adds
-      (first ∙ ap (λ (s : Seen). made.0 ++ case_part false (case_tree m).0 s.1 ∷ []) e) (second ∙ ap (λ (s : Seen). made.1 ++ case_part true (case_tree m).0 s.2 ∷ []) e)
+      (first ∙ ap (λ (g : CaseHead). made.0 ++ case_part false g ty.1 ∷ []) here ∙ ap (λ (s : Seen). made.0 ++ case_part false (case_tree m).0 s.1 ∷ []) e)
+      (second ∙ ap (λ (g : CaseHead). made.1 ++ case_part true g ty.2 ∷ []) here ∙ ap (λ (s : Seen). made.1 ++ case_part true (case_tree m).0 s.2 ∷ []) e)
 
   pub cases_end : (fault : PoolFault) (new : Texts) → Halts fault now (texts (tree m.ty)) new → Halts fault old (case_texts (cases_tree cases)) new
   cases_end fault new k = ends case_texts (λ c. case_parts c) fault old now new (cases_tree cases) (cases_tree (drop i cases)) (cases_tree (drop (i + 1) cases)) made (texts (tree m.ty)) _ _ (case_next cases i m lt is) h k

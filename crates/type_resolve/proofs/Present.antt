@@ -52,7 +52,7 @@ joined-append : (a b : List (List (List ℕ))) → joined (a ++ b) ≡ joined a 
 joined-append [] b = refl
 joined-append (ts ∷ a) b = ap (λ us. ts ++ us) (joined-append a b) ∙ sym (append_assoc ts (joined a) (joined b))
 
-held_both : (pool : Texts) (a b : List (List ℕ)) → AreHeld pool a → AreHeld pool b → AreHeld pool (a ++ b)
+pub held_both : (pool : Texts) (a b : List (List ℕ)) → AreHeld pool a → AreHeld pool b → AreHeld pool (a ++ b)
 held_both pool [] b h k = k
 held_both pool (t ∷ a) b h k = (h.0, held_both pool a b h.1 k)
 
@@ -95,11 +95,11 @@ needs_held pool ext base had (b ∷ bs) needs parts before h =
     subst (λ ts. AreHeld pool ts) (sym (joined-append (take had needs) (between had b.count needs)) ∙ ap joined (sym (take-max had b.count needs))) (held_both pool (joined (take had needs)) (joined (between had b.count needs)) before own_needs) in
     needs_held pool ext (λ c. own (x c)) (max had b.count) bs needs parts so_far (held_second pool (both_texts x) _ rest)
 
-last-top : (had : ℕ) (bs : List Base) (b : Base) → b.count ≤ last_had had (bs ++ b ∷ [])
+pub last-top : (had : ℕ) (bs : List Base) (b : Base) → b.count ≤ last_had had (bs ++ b ∷ [])
 last-top had [] b = omega arith
 last-top had (c ∷ bs) b = last-top (max had c.count) bs b
 
-texts-count : (ms : Members) → length (member_texts ms) ≡ member_count ms
+pub texts-count : (ms : Members) → length (member_texts ms) ≡ member_count ms
 unfolding member_texts
 texts-count no_members = refl
 texts-count (member h t ms) = omega (arith, texts-count ms)

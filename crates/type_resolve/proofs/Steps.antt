@@ -27,7 +27,7 @@ module _ {X Y : Type 0} (view : X → Y) (r : Result X PoolFault) (old new : Tex
 pub halts_same : (fault : PoolFault) (old new : Texts) (xs ys : List (List ℕ)) → xs ≡ ys → Halts fault old xs new → Halts fault old ys new
 halts_same fault old new xs ys e h = subst (λ ts. Halts fault old ts new) e h
 
-hashed_so : (r : Result Identifiers PoolFault) (old new : Texts) (xs : List (List ℕ)) (ids : Identifiers) → Stores itself r old xs new ids → Stores hashes_seen r old xs new (hashes_seen ids)
+pub hashed_so : (r : Result Identifiers PoolFault) (old new : Texts) (xs : List (List ℕ)) (ids : Identifiers) → Stores itself r old xs new ids → Stores hashes_seen r old xs new (hashes_seen ids)
 hashed_so (Ok i) old new xs ids h = (h.0, ap hashes_seen h.1)
 hashed_so (Err f) old new xs ids h = h
 

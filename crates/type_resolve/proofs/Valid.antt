@@ -20,7 +20,7 @@ use Rattle.type_rules.proofs.FaultSteps.{fault_is, inside_sequence, inside_array
 use Rattle.type_resolve.specs.Objects.{member_count}
 use Rattle.type_resolve.proofs.Returning.{Rises, EachPosition, ComesBack, MembersComeBack, CasesComeBack}
 
-le_is : (n m : ℕ) → nat_le n m ≡ true → n ≤ m
+pub le_is : (n m : ℕ) → nat_le n m ≡ true → n ≤ m
 le_is n m e = grind (arith, tests)
 
 lt_is : (n m : ℕ) → nat_lt n m ≡ true → n < m

@@ -4,3 +4,4 @@ pub mod Views
 pub mod Held
 pub mod Worked
 pub mod Known
+pub mod Definitions

@@ -2,7 +2,7 @@
 use Rattle.std.specs.Prelude.{◌≡◌, ℕ, ◌&&◌, List, [], ◌∷◌, Bool, true, false, Option, Some, None, Result, Ok, Err, map}
 use Rattle.type_trees.specs.declared.types.HashId.{HashId}
 use Rattle.xt_shapes.specs.declared.leaves.Try.{Try}
-use Rattle.type_trees.specs.Trees.{Tree, UnionHead}
+use Rattle.type_trees.specs.Trees.{Tree, MemberHead, CaseHead, UnionHead}
 use Rattle.object_formats.specs.Objects as o
 use Rattle.object_formats.specs.Objects.{Identifier, MemberPart, CasePart, Object}
 use Rattle.object_formats.specs.Tables.{text_of, ek_of}
@@ -11,6 +11,8 @@ use Rattle.type_object.specs.Names.{named}
 use Rattle.type_object.specs.Pools.{Texts}
 use Rattle.type_object.specs.declared.pool.PoolFault.{PoolFault}
 use Rattle.type_object.specs.declared.pool.PoolFault.TheVariants as F
+use Rattle.type_resolve.specs.declared.heads.MemberHeading.{MemberHeading}
+use Rattle.type_resolve.specs.declared.heads.CaseHeading.{CaseHeading}
 use Rattle.type_resolve.specs.declared.sides.Identifiers.{Identifiers}
 use Rattle.type_resolve.specs.declared.sides.Sides.{Sides}
 use Rattle.type_resolve.specs.declared.sides.MemberSides.{MemberSides}
@@ -72,6 +74,12 @@ forms p = (view.object p.minimal, view.object p.complete)
 
 abbrev pub union_head : Header → Bool → UnionHead
 union_head h disc_key = record { name = h.name.now; ext = h.ext; nested = h.nested; hashed_ids = h.hashed_ids; disc_key = disc_key }
+
+abbrev pub member_head : MemberHeading → MemberHead
+member_head m = record { id = m.id; name = m.name.now; tc = m.tc; optional = m.optional; must_understand = m.must_understand; key = m.key }
+
+abbrev pub case_head : CaseHeading → CaseHead
+case_head c = record { id = c.id; name = c.name.now; tc = c.tc; labels = c.labels.now; is_default = c.is_default }
 
 abbrev pub both_forms : (Bool → Object) → Object × Object
 both_forms x = (x false, x true)

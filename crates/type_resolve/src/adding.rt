@@ -9,7 +9,7 @@ use crate::objects::Pair;
 use crate::sides::Identifiers;
 use object_formats::TypeObject;
 use std::alloc::Global;
-use type_object::{PoolFault, write_object};
+use type_object::{Pool, PoolFault, write_object};
 use type_trees::HashId;
 use xt_lists::OutOfMemory;
 
@@ -25,7 +25,7 @@ pub(crate) fn made<T>(what: Result<T, OutOfMemory>) -> Result<T, PoolFault>
 
 /// Adds an object with its text, and gives its identifier.
 #[tactic(auto, using(crate::proofs::Added::added_rules))]
-fn add_object(alloc: Global, object: TypeObject, pool: &mut Making<'_>) -> Result<HashId, PoolFault>
+fn add_object(alloc: Global, object: TypeObject, pool: &mut Pool) -> Result<HashId, PoolFault>
     ensures { Stores itself result pool.old (text_of (view.object object) ∷ []) pool.new (named (text_of (view.object object))) }
 {
     let Ok(text) = write_object(alloc, &object) else {
@@ -35,7 +35,7 @@ fn add_object(alloc: Global, object: TypeObject, pool: &mut Making<'_>) -> Resul
 }
 
 /// Adds the minimal object, and then the complete one.
-fn add_pair(alloc: Global, pair: Pair, pool: &mut Making<'_>) -> Result<Identifiers, PoolFault>
+pub(crate) fn add_pair(alloc: Global, pair: Pair, pool: &mut Pool) -> Result<Identifiers, PoolFault>
     ensures { Stores itself result pool.old (form_texts (forms pair)) pool.new (form_ids (forms pair)) }
 {
     let Pair { minimal, complete } = pair;
@@ -53,7 +53,7 @@ pub(crate) fn add_made(
     ensures { AddsMade pair result pool.old pool.new }
 {
     match pair {
-        Ok(pair) => add_pair(alloc, pair, pool),
+        Ok(pair) => pool.add_pair(alloc, pair),
         Err(_) => Err(PoolFault::OutOfMemory),
     }
 }

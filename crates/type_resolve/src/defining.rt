@@ -70,7 +70,11 @@ impl<'a> Making<'a> {
     /// Adds the objects of a type as `objects_of` does. Those of a type that has a name are not made again where it came before, by itself
     /// or in another.
     #[tactic(auto, using(type_trees::proofs::Views::tree_rules))]
-    pub fn add_type(&mut self, alloc: Global, named: &'a Named) -> Result<Identifiers, PoolFault>
+    pub(crate) fn add_type(
+        &mut self,
+        alloc: Global,
+        named: &'a Named,
+    ) -> Result<Identifiers, PoolFault>
         requires { spec.has_objects (tree named.now.ty) ≡ true }
         ensures added { OnOk result (Adds self.old (spec.texts (tree named.now.ty)) self.new) }
         ensures minimal { IfOk result (λ ids. spec.identifier false (tree named.now.ty) ≡ o.hash ids.minimal) }

@@ -1,8 +1,8 @@
 ghost use Rattle.std.specs.Prelude.{◌≡◌, ◌+◌, ◌≤◌};
 ghost use Rattle.type_resolve.specs.Objects as spec;
-ghost use Rattle.type_trees.specs.Trees.{MemberHead, CaseHead};
+ghost use Rattle.type_resolve.specs.Views.{member_head, case_head};
 
-use type_trees::{Case, Member};
+use crate::heads::{CaseHeading, MemberHeading};
 use xt_shapes::{Ext, Try};
 
 /// The flag where it is set, else 0.
@@ -47,15 +47,15 @@ pub(crate) fn type_flags(complete: bool, ext: Ext, nested: bool, hashed_ids: boo
     ext_flag(ext) + more
 }
 
-pub(crate) fn member_flags(member: &Member) -> u16
-    ensures { result ≡ spec.member_flags (record { id = member.now.id; name = member.now.name; tc = member.now.tc; optional = member.now.optional; must_understand = member.now.must_understand; key = member.now.key }) }
+pub(crate) fn member_flags(member: &MemberHeading<'_>) -> u16
+    ensures { result ≡ spec.member_flags (member_head member.now) }
 {
     try_flags(member.tc)
         + (set(member.optional, 0x08) + (set(member.must_understand, 0x10) + set(member.key, 0x20)))
 }
 
-pub(crate) fn case_flags(case: &Case) -> u16
-    ensures { result ≡ spec.case_flags (record { id = case.now.id; name = case.now.name; tc = case.now.tc; labels = case.now.labels; is_default = case.now.is_default }) }
+pub(crate) fn case_flags(case: &CaseHeading<'_>) -> u16
+    ensures { result ≡ spec.case_flags (case_head case.now) }
 {
     try_flags(case.tc) + set(case.is_default, 0x40)
 }

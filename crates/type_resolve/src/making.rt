@@ -1,26 +1,23 @@
-ghost use Rattle.std.specs.Prelude.{◌≡◌, [], IfOk, IfErr, IfSome, OnOk, OnErr, Ok};
+ghost use Rattle.std.specs.Prelude.{◌≡◌, [], IfSome};
 ghost use Rattle.std.specs.Option.{option_map};
-ghost use Rattle.object_formats.specs.Tables.{text_of};
-ghost use Rattle.object_formats.specs.View as view;
 ghost use Rattle.type_trees.specs.Bridge.{name_number};
-ghost use Rattle.type_trees.specs.declared.types.Name.TheVariants.{Full};
 ghost use Rattle.type_trees.specs.View.{tree};
-ghost use Rattle.type_object.specs.Faults.{Refuses};
-ghost use Rattle.type_object.specs.Names.{named};
-ghost use Rattle.type_object.specs.Pools.{IsObject, added};
 ghost use Rattle.type_resolve.specs.Adding.{Adds};
 ghost use Rattle.type_resolve.specs.Held.{AreHeld};
 ghost use Rattle.type_resolve.specs.Known.{IsKnown, known_name};
 ghost use Rattle.type_resolve.specs.Objects.{texts};
-ghost use Rattle.type_resolve.specs.Views.{sides, hashes_seen};
+ghost use Rattle.type_resolve.specs.Views.{Stores, itself, forms, form_texts, form_ids, sides, hashes_seen};
 
+use crate::adding::add_pair;
+use crate::numbers::{Called, Numbers};
+use crate::objects::Pair;
 use crate::sides::Identifiers;
 use indexmap::IndexMap;
 use std::alloc::Global;
 use std::marker::Model;
 use std::mem;
-use type_object::{Pool, PoolFault, TypeObject};
-use type_trees::{HashId, Name, XType, name_number};
+use type_object::{Pool, PoolFault};
+use type_trees::{Name, XType};
 use type_values::same::same_type;
 use xt_lists::{OutOfMemory, Text};
 
@@ -31,29 +28,14 @@ pub(crate) struct Known<'a> {
     pub(crate) ids: Identifiers,
 }
 
-/// The name of a known type, or of a member whose hash is known.
-#[derive(Debug, Clone, Copy, PartialEq, Eq, Hash)]
-struct Called<'a> {
-    name: &'a [u8],
-}
-
-/// A name in full, and its hash as a number.
-#[derive(Clone, Copy)]
-pub(crate) struct Numbered<'a> {
-    name: &'a [u8],
-    number: u32,
-    ghost own: { number ≡ name_number (Full name.now) },
-}
-
 /// A pool that the objects of types are added to, and what is known of types that have a name: those of which all objects were added are
 /// found by it, so that none is made twice. Members' names are hashed once, too.
 #[derive(Drop)]
-pub struct Making<'a> {
+pub(crate) struct Making<'a> {
     pool: Pool,
     known: Vec<Known<'a>>,
     places: IndexMap<Called<'a>, usize>,
-    numbers: Vec<Numbered<'a>>,
-    number_places: IndexMap<Called<'a>, usize>,
+    numbers: Numbers<'a>,
 }
 
 impl<'a> Model for Making<'a> {
@@ -103,33 +85,21 @@ fn ids_of(known: &Known<'_>, ty: &XType) -> Option<Identifiers>
     }
 }
 
-/// The hash of the name, where it is this one.
-fn number_in(numbered: &Numbered<'_>, name: &[u8]) -> Option<u32>
-    ensures { IfSome result (λ number. number ≡ name_number (Full name.now)) }
-{
-    if numbered.name == name {
-        Some(numbered.number)
-    } else {
-        None
-    }
-}
-
 impl<'a> Making<'a> {
     /// Objects are added to this pool. It takes no memory.
-    pub fn new(alloc: Global, pool: Pool) -> Making<'a>
+    pub(crate) fn new(alloc: Global, pool: Pool) -> Making<'a>
         ensures { result ≡ pool }
     {
         Making {
             pool,
             known: Vec::new(alloc),
             places: IndexMap::new(alloc),
-            numbers: Vec::new(alloc),
-            number_places: IndexMap::new(alloc),
+            numbers: Numbers::new(alloc),
         }
     }
 
     /// Takes out the pool with what was added, and leaves an empty one.
-    pub fn take(&mut self, alloc: Global) -> Pool
+    pub(crate) fn take(&mut self, alloc: Global) -> Pool
         ensures taken { result ≡ self.old }
         ensures left { self.new ≡ [] }
     {
@@ -137,14 +107,11 @@ impl<'a> Making<'a> {
         mem::replace(&mut self.pool, Pool::new(alloc))
     }
 
-    /// Adds an object with its text, as `Pool::add_made` does.
-    pub(crate) fn add_made(&mut self, object: TypeObject, text: Text) -> Result<HashId, PoolFault>
-        requires { text ≡ text_of (view.object object) }
-        ensures ok { IfOk result (λ id. added self.old text ≡ Ok (id, self.new)) }
-        ensures err { IfErr result (λ fault. Refuses fault (added self.old text)) }
-        ensures unchanged { OnErr result (self.new ≡ self.old) }
+    /// Adds the minimal object, and then the complete one.
+    pub(crate) fn add_pair(&mut self, alloc: Global, pair: Pair) -> Result<Identifiers, PoolFault>
+        ensures { Stores itself result self.old (form_texts (forms pair)) self.new (form_ids (forms pair)) }
     {
-        self.pool.add_made(object, text)
+        add_pair(alloc, pair, &mut self.pool)
     }
 
     /// The identifiers of a type, where it is known that all its objects were added.
@@ -170,39 +137,11 @@ impl<'a> Making<'a> {
         Ok(())
     }
 
-    // The hash of a name in full, where it is known.
-    fn known_number(&self, name: &'a [u8]) -> Option<u32>
-        ensures { IfSome result (λ number. number ≡ name_number (Full name.now)) }
-    {
-        let place = *self.number_places.get(&Called { name })?;
-        let numbered = self.numbers.get(place)?;
-        number_in(numbered, name)
-    }
-
-    // Keeps a hash in mind, where there is memory for it.
-    fn keep_number(&mut self, name: &'a [u8], number: u32) -> Result<(), OutOfMemory>
-        requires { number ≡ name_number (Full name.now) }
-        ensures { self.new ≡ self.old }
-    {
-        self.number_places
-            .insert(Called { name }, self.numbers.len())?;
-        self.numbers.push(Numbered { name, number })?;
-        Ok(())
-    }
-
     /// The hash of a member's name as a number.
     pub(crate) fn number_of(&mut self, name: &'a Name) -> u32
         ensures number { result ≡ name_number name.now }
         ensures same { self.new ≡ self.old }
     {
-        let Name::Full(text) = name else {
-            return name_number(name);
-        };
-        if let Some(number) = self.known_number(text.octets()) {
-            return number;
-        }
-        let number = name_number(name);
-        let _ = self.keep_number(text.octets(), number);
-        number
+        self.numbers.number_of(name)
     }
 }

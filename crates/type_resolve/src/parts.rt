@@ -1,17 +1,17 @@
 ghost use Rattle.std.specs.Prelude.{◌≡◌, ◌++◌, ◌∷◌, [], true, false, map, IfOk, IfErr};
 ghost use Rattle.object_formats.specs.View as view;
 ghost use Rattle.type_trees.specs.Bridge.{name_number};
-ghost use Rattle.type_trees.specs.View.{member_tree, case_tree};
 ghost use Rattle.type_resolve.specs.Objects as spec;
-ghost use Rattle.type_resolve.specs.Views.{seen, member_sides, case_sides};
+ghost use Rattle.type_resolve.specs.Views.{seen, member_sides, case_sides, member_head, case_head};
 
 use crate::adding::made;
 use crate::flags::{case_flags, member_flags, set};
+use crate::heads::{CaseHeading, MemberHeading};
 use crate::sides::{CaseSides, MemberSides, Sides};
 use object_formats::{ObjectCase, ObjectFlag, ObjectLiteral, ObjectMember, TypeIdentifier};
 use std::alloc::Global;
 use type_object::PoolFault;
-use type_trees::{Case, Flag, Literal, Member, Name, name_number};
+use type_trees::{Flag, Literal, Name, name_number};
 use type_values::{copy_name, copy_plain};
 use xt_lists::{OutOfMemory, Row};
 
@@ -62,10 +62,9 @@ pub(crate) fn flag_parts(
 }
 
 /// A member under this name.
-#[tactic(auto, using(type_trees::proofs::Views::tree_rules))]
-fn member_part(name: Name, member: &Member, ty: TypeIdentifier) -> ObjectMember
-    ensures minimal { name ≡ spec.name_in false member.now.name → view.member result ≡ spec.member_part false (member_tree member.now).0 (view.identifier ty) }
-    ensures complete { name ≡ spec.name_in true member.now.name → view.member result ≡ spec.member_part true (member_tree member.now).0 (view.identifier ty) }
+fn member_part(name: Name, member: &MemberHeading<'_>, ty: TypeIdentifier) -> ObjectMember
+    ensures minimal { name ≡ spec.name_in false member.now.name.now → view.member result ≡ spec.member_part false (member_head member.now) (view.identifier ty) }
+    ensures complete { name ≡ spec.name_in true member.now.name.now → view.member result ≡ spec.member_part true (member_head member.now) (view.identifier ty) }
 {
     ObjectMember {
         id: member.id,
@@ -75,17 +74,16 @@ fn member_part(name: Name, member: &Member, ty: TypeIdentifier) -> ObjectMember
     }
 }
 
-#[tactic(auto, using(type_trees::proofs::Views::tree_rules))]
 fn case_part(
     alloc: Global,
     complete: bool,
-    case: &Case,
+    case: &CaseHeading<'_>,
     ty: TypeIdentifier,
 ) -> Result<ObjectCase, OutOfMemory>
-    ensures { IfOk result (λ c. view.case c ≡ spec.case_part complete (case_tree case.now).0 (view.identifier ty)) }
+    ensures { IfOk result (λ c. view.case c ≡ spec.case_part complete (case_head case.now) (view.identifier ty)) }
 {
-    let name = name_in(alloc, complete, &case.name)?;
-    let labels = copy_plain(alloc, &case.labels)?;
+    let name = name_in(alloc, complete, case.name)?;
+    let labels = copy_plain(alloc, case.labels)?;
     Ok(ObjectCase {
         id: case.id,
         flags: case_flags(case),
@@ -110,12 +108,12 @@ impl MemberSides {
         &mut self,
         alloc: Global,
         number: u32,
-        member: &Member,
+        member: &MemberHeading<'_>,
         ty: Sides,
     ) -> Result<(), PoolFault>
-        requires { number ≡ name_number member.now.name }
-        ensures minimal { IfOk result (λ u. map view.member self.new.minimal ≡ map view.member self.old.minimal ++ spec.member_part false (member_tree member.now).0 (seen ty).1 ∷ []) }
-        ensures complete { IfOk result (λ u. map view.member self.new.complete ≡ map view.member self.old.complete ++ spec.member_part true (member_tree member.now).0 (seen ty).2 ∷ []) }
+        requires { number ≡ name_number member.now.name.now }
+        ensures minimal { IfOk result (λ u. map view.member self.new.minimal ≡ map view.member self.old.minimal ++ spec.member_part false (member_head member.now) (seen ty).1 ∷ []) }
+        ensures complete { IfOk result (λ u. map view.member self.new.complete ≡ map view.member self.old.complete ++ spec.member_part true (member_head member.now) (seen ty).2 ∷ []) }
         ensures only_memory { IfErr result (λ fault. fault ≡ PoolFault.OutOfMemory) }
     {
         made(self.push_both(alloc, number, member, ty))
@@ -125,12 +123,12 @@ impl MemberSides {
         &mut self,
         alloc: Global,
         number: u32,
-        member: &Member,
+        member: &MemberHeading<'_>,
         ty: Sides,
     ) -> Result<(), OutOfMemory>
-        requires { number ≡ name_number member.now.name }
-        ensures minimal { IfOk result (λ u. map view.member self.new.minimal ≡ map view.member self.old.minimal ++ spec.member_part false (member_tree member.now).0 (seen ty).1 ∷ []) }
-        ensures complete { IfOk result (λ u. map view.member self.new.complete ≡ map view.member self.old.complete ++ spec.member_part true (member_tree member.now).0 (seen ty).2 ∷ []) }
+        requires { number ≡ name_number member.now.name.now }
+        ensures minimal { IfOk result (λ u. map view.member self.new.minimal ≡ map view.member self.old.minimal ++ spec.member_part false (member_head member.now) (seen ty).1 ∷ []) }
+        ensures complete { IfOk result (λ u. map view.member self.new.complete ≡ map view.member self.old.complete ++ spec.member_part true (member_head member.now) (seen ty).2 ∷ []) }
     {
         let Sides {
             plain: _,
@@ -145,11 +143,11 @@ impl MemberSides {
 fn push_minimal(
     row: &mut Row<ObjectMember>,
     number: u32,
-    member: &Member,
+    member: &MemberHeading<'_>,
     ty: TypeIdentifier,
 ) -> Result<(), OutOfMemory>
-    requires { number ≡ name_number member.now.name }
-    ensures { IfOk result (λ u. map view.member row.new ≡ map view.member row.old ++ spec.member_part false (member_tree member.now).0 (view.identifier ty) ∷ []) }
+    requires { number ≡ name_number member.now.name.now }
+    ensures { IfOk result (λ u. map view.member row.new ≡ map view.member row.old ++ spec.member_part false (member_head member.now) (view.identifier ty) ∷ []) }
 {
     let part = member_part(Name::Hashed(number), member, ty);
     row.push(part)
@@ -158,12 +156,12 @@ fn push_minimal(
 fn push_complete(
     row: &mut Row<ObjectMember>,
     alloc: Global,
-    member: &Member,
+    member: &MemberHeading<'_>,
     ty: TypeIdentifier,
 ) -> Result<(), OutOfMemory>
-    ensures { IfOk result (λ u. map view.member row.new ≡ map view.member row.old ++ spec.member_part true (member_tree member.now).0 (view.identifier ty) ∷ []) }
+    ensures { IfOk result (λ u. map view.member row.new ≡ map view.member row.old ++ spec.member_part true (member_head member.now) (view.identifier ty) ∷ []) }
 {
-    let name = copy_name(alloc, &member.name)?;
+    let name = copy_name(alloc, member.name)?;
     let part = member_part(name, member, ty);
     row.push(part)
 }
@@ -179,17 +177,27 @@ impl CaseSides {
     }
 
     /// Appends a case with its type's identifiers.
-    pub(crate) fn push(&mut self, alloc: Global, case: &Case, ty: Sides) -> Result<(), PoolFault>
-        ensures minimal { IfOk result (λ u. map view.case self.new.minimal ≡ map view.case self.old.minimal ++ spec.case_part false (case_tree case.now).0 (seen ty).1 ∷ []) }
-        ensures complete { IfOk result (λ u. map view.case self.new.complete ≡ map view.case self.old.complete ++ spec.case_part true (case_tree case.now).0 (seen ty).2 ∷ []) }
+    pub(crate) fn push(
+        &mut self,
+        alloc: Global,
+        case: &CaseHeading<'_>,
+        ty: Sides,
+    ) -> Result<(), PoolFault>
+        ensures minimal { IfOk result (λ u. map view.case self.new.minimal ≡ map view.case self.old.minimal ++ spec.case_part false (case_head case.now) (seen ty).1 ∷ []) }
+        ensures complete { IfOk result (λ u. map view.case self.new.complete ≡ map view.case self.old.complete ++ spec.case_part true (case_head case.now) (seen ty).2 ∷ []) }
         ensures only_memory { IfErr result (λ fault. fault ≡ PoolFault.OutOfMemory) }
     {
         made(self.push_both(alloc, case, ty))
     }
 
-    fn push_both(&mut self, alloc: Global, case: &Case, ty: Sides) -> Result<(), OutOfMemory>
-        ensures minimal { IfOk result (λ u. map view.case self.new.minimal ≡ map view.case self.old.minimal ++ spec.case_part false (case_tree case.now).0 (seen ty).1 ∷ []) }
-        ensures complete { IfOk result (λ u. map view.case self.new.complete ≡ map view.case self.old.complete ++ spec.case_part true (case_tree case.now).0 (seen ty).2 ∷ []) }
+    fn push_both(
+        &mut self,
+        alloc: Global,
+        case: &CaseHeading<'_>,
+        ty: Sides,
+    ) -> Result<(), OutOfMemory>
+        ensures minimal { IfOk result (λ u. map view.case self.new.minimal ≡ map view.case self.old.minimal ++ spec.case_part false (case_head case.now) (seen ty).1 ∷ []) }
+        ensures complete { IfOk result (λ u. map view.case self.new.complete ≡ map view.case self.old.complete ++ spec.case_part true (case_head case.now) (seen ty).2 ∷ []) }
     {
         let Sides {
             plain: _,
@@ -205,10 +213,10 @@ fn push_case(
     row: &mut Row<ObjectCase>,
     alloc: Global,
     complete: bool,
-    case: &Case,
+    case: &CaseHeading<'_>,
     ty: TypeIdentifier,
 ) -> Result<(), OutOfMemory>
-    ensures { IfOk result (λ u. map view.case row.new ≡ map view.case row.old ++ spec.case_part complete (case_tree case.now).0 (view.identifier ty) ∷ []) }
+    ensures { IfOk result (λ u. map view.case row.new ≡ map view.case row.old ++ spec.case_part complete (case_head case.now) (view.identifier ty) ∷ []) }
 {
     let part = case_part(alloc, complete, case, ty)?;
     row.push(part)

@@ -7,6 +7,7 @@ ghost use Rattle.type_resolve.specs.Views.{Makes, Stores, seen, sides, hashes_se
 
 use crate::adding::add_made;
 use crate::collections::{of_array, of_hashes, of_map, of_prim, of_sequence, of_string};
+use crate::heads::{of_case, of_member};
 use crate::making::Making;
 use crate::objects::{Header, alias_pair, enum_pair, mask_pair, struct_pair, union_pair};
 use crate::sides::{CaseSides, Identifiers, MemberSides, Sides};
@@ -226,7 +227,7 @@ fn members<'a>(
     for member in own {
         let number = pool.number_of(&member.name);
         let ty = member_type(alloc, member, pool)?;
-        parts.push(alloc, number, member, ty)?;
+        parts.push(alloc, number, &of_member(member), ty)?;
     }
     Ok(parts)
 }
@@ -242,7 +243,7 @@ fn cases<'a>(
     let mut parts = CaseSides::new(alloc);
     for case in cases {
         let ty = identify(alloc, &case.ty, pool)?;
-        parts.push(alloc, case, ty)?;
+        parts.push(alloc, &of_case(case), ty)?;
     }
     Ok(parts)
 }

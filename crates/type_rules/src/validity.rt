@@ -18,7 +18,19 @@ pub struct TypeFault {
     pub node: Path,
 }
 
-fn fault_beneath(step: Step, fault: TypeFault) -> TypeFault
+/// A rule that fails at a type's own node.
+pub fn fault_here(rule: u8) -> TypeFault
+    ensures rule { result.rule ≡ rule }
+    ensures node { result.node ≡ [] }
+{
+    TypeFault {
+        rule,
+        node: Path::empty(),
+    }
+}
+
+/// The fault of a type one step below.
+pub fn fault_beneath(step: Step, fault: TypeFault) -> TypeFault
     requires { length fault.node < 16 }
     ensures rule { result.rule ≡ fault.rule }
     ensures node { result.node ≡ step ∷ fault.node }
@@ -108,16 +120,14 @@ pub fn check_nodes(ty: &XType) -> Option<TypeFault>
     ensures short { IfSome result (λ f. length f.node < place.depth (tree ty.now)) }
 {
     match failing_rule(ty) {
-        Some(rule) => Some(TypeFault {
-            rule,
-            node: Path::empty(),
-        }),
+        Some(rule) => Some(fault_here(rule)),
         None => check_inside(ty),
     }
 }
 
+/// Whether there are at most 65,536 nodes, and the weight isn't greater.
 #[tactic(auto, using(node_rules::proofs::Limits::within_test))]
-fn is_small(ty: &XType) -> bool
+pub fn is_small(ty: &XType) -> bool
     ensures { result ≡ spec.is_small (tree ty.now) }
 {
     capped_nodes(ty) <= 65_536 && capped_weight(ty) <= 65_536
@@ -135,10 +145,7 @@ pub fn check_type(ty: &XType) -> Result<(), TypeFault>
         return Err(TypeFault { rule: 15, node });
     }
     if !is_small(ty) {
-        return Err(TypeFault {
-            rule: 16,
-            node: Path::empty(),
-        });
+        return Err(fault_here(16));
     }
     match check_nodes(ty) {
         Some(fault) => Err(fault),

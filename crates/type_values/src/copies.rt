@@ -49,11 +49,12 @@ where
     Ok(copy)
 }
 
-fn copy_literals(alloc: Global, literals: &Row<Literal>) -> Result<Row<Literal>, OutOfMemory>
+/// The same literals.
+pub fn copy_literals(alloc: Global, literals: &[Literal]) -> Result<Row<Literal>, OutOfMemory>
     ensures { IfOk result (λ copy. copy ≡ literals.now) }
 {
     let mut copy = Row::new(alloc);
-    for literal in literals.as_slice() {
+    for literal in literals {
         copy.push(Literal {
             name: copy_name(alloc, &literal.name)?,
             value: literal.value,
@@ -63,11 +64,12 @@ fn copy_literals(alloc: Global, literals: &Row<Literal>) -> Result<Row<Literal>,
     Ok(copy)
 }
 
-fn copy_flags(alloc: Global, flags: &Row<Flag>) -> Result<Row<Flag>, OutOfMemory>
+/// The same flags.
+pub fn copy_flags(alloc: Global, flags: &[Flag]) -> Result<Row<Flag>, OutOfMemory>
     ensures { IfOk result (λ copy. copy ≡ flags.now) }
 {
     let mut copy = Row::new(alloc);
-    for flag in flags.as_slice() {
+    for flag in flags {
         copy.push(Flag {
             name: copy_name(alloc, &flag.name)?,
             position: flag.position,
@@ -238,7 +240,7 @@ fn copy_enum(alloc: Global, kind: &EnumType) -> Result<EnumType, OutOfMemory>
         name: copy_optional_text(alloc, &kind.name)?,
         ext: kind.ext,
         bits: kind.bits,
-        literals: copy_literals(alloc, &kind.literals)?,
+        literals: copy_literals(alloc, kind.literals.as_slice())?,
     })
 }
 
@@ -248,7 +250,7 @@ fn copy_mask(alloc: Global, kind: &MaskType) -> Result<MaskType, OutOfMemory>
     Ok(MaskType {
         name: copy_optional_text(alloc, &kind.name)?,
         bits: kind.bits,
-        flags: copy_flags(alloc, &kind.flags)?,
+        flags: copy_flags(alloc, kind.flags.as_slice())?,
     })
 }
 

@@ -13,7 +13,9 @@ mod typed;
 mod value_copies;
 
 pub use bases::base_of;
-pub use copies::{copy_name, copy_optional_text, copy_plain, copy_text, copy_type};
+pub use copies::{
+    copy_flags, copy_literals, copy_name, copy_optional_text, copy_plain, copy_text, copy_type,
+};
 pub use defaults::default_value;
 pub use keys::repeats;
 pub use node_rules::{has_literal, is_of_prim};

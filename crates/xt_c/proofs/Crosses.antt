@@ -4,9 +4,18 @@ use Rattle.std.proofs.Crossing.{crosses}
 use Rattle.type_trees.proofs.types.XType.TheLaws.TheKnot as knot
 use Rattle.object_formats.proofs.objects.TypeIdentifier.TheLaws.TheKnot as identifier_knot
 use Rattle.packed_json.proofs.plan.Plan.TheLaws.TheKnot as plan_knot
+use Rattle.idl_types.proofs.uses.Used.TheLaws.TheKnot as used_knot
 use Rattle.xt_lists.specs.contracts.texts.Text as Text
 use Rattle.type_trees.specs.contracts.types.HashId as HashId
-use Rattle.type_trees.specs.contracts.types.Named as Named
+use Rattle.type_trees.specs.contracts.types.EnumType as EnumType
+use Rattle.type_trees.specs.contracts.types.MaskType as MaskType
+use Rattle.idl_types.specs.contracts.declarations.UsedMember as UsedMember
+use Rattle.idl_types.specs.contracts.declarations.UsedCase as UsedCase
+use Rattle.idl_types.specs.contracts.declarations.StructDefinition as StructDefinition
+use Rattle.idl_types.specs.contracts.declarations.UnionDefinition as UnionDefinition
+use Rattle.idl_types.specs.contracts.declarations.Definition as Definition
+use Rattle.idl_types.specs.contracts.declarations.Declaration as Declaration
+use Rattle.idl_types.specs.contracts.kept.Declarations as Declarations
 use Rattle.object_formats.specs.contracts.objects.ObjectLiteral as Literal
 use Rattle.object_formats.specs.contracts.objects.ObjectFlag as Flag
 use Rattle.object_formats.specs.contracts.objects.ObjectMember as Member
@@ -52,11 +61,35 @@ pool_send = search (entry_send, id_send, crosses, sendable) depth 60 fits 20000
 
 -- ---- types, with what they declare
 
-named_send : IsSend (Named.the_field).row
-named_send = search (knot.crosses, crosses, sendable) depth 60 fits 20000
+enumeration_send : IsSend (EnumType.the_field).row
+enumeration_send = search (knot.crosses, crosses, sendable) depth 60 fits 20000
+
+bitmask_send : IsSend (MaskType.the_field).row
+bitmask_send = search (knot.crosses, crosses, sendable) depth 60 fits 20000
+
+used_member_send : IsSend UsedMember.the_row
+used_member_send = search (used_knot.crosses, crosses, sendable) depth 60 fits 20000
+
+used_case_send : IsSend UsedCase.the_row
+used_case_send = search (used_knot.crosses, crosses, sendable) depth 60 fits 20000
+
+structure_send : IsSend (StructDefinition.the_field).row
+structure_send = search (used_member_send, crosses, sendable) depth 60 fits 20000
+
+union_send : IsSend (UnionDefinition.the_field).row
+union_send = search (used_knot.crosses, used_case_send, crosses, sendable) depth 60 fits 20000
+
+definition_send : IsSend (Definition.the_field).row
+definition_send = search (used_knot.crosses, enumeration_send, bitmask_send, structure_send, union_send, crosses, sendable) depth 60 fits 20000
+
+declaration_send : IsSend Declaration.the_row
+declaration_send = search (definition_send, text_send, crosses, sendable) depth 60 fits 20000
+
+declarations_send : IsSend (Declarations.the_field).row
+declarations_send = search (declaration_send, crosses, sendable) depth 60 fits 20000
 
 declared_send : IsSend (Declared.the_field).row
-declared_send = search (named_send, id_send, text_send, crosses, sendable) depth 60 fits 20000
+declared_send = search (declarations_send, id_send, text_send, crosses, sendable) depth 60 fits 20000
 
 pub types_send : IsSend Types.the_row
 types_send = search (declared_send, pool_send, crosses, sendable) depth 60 fits 20000

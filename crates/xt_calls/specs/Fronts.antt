@@ -9,12 +9,12 @@ use Rattle.xt_shapes.specs.contracts.leaves.Step as step
 use Rattle.xt_shapes.specs.declared.leaves.Step.{Step}
 use Rattle.type_trees.specs.declared.types.HashId.{HashId}
 use Rattle.type_trees.specs.contracts.types.HashId as hash_id
-use Rattle.type_trees.specs.declared.types.Named.{Named}
 use Rattle.type_trees.specs.Trees.{Tree}
 use Rattle.type_resolve.specs.declared.sides.Identifiers.{Identifiers}
 use Rattle.object_walks.specs.Resolving.{Refusal, missing, recursive, invalid}
 use Rattle.type_object.specs.Pools.{Texts}
 use Rattle.idl_types.specs.State as idl_types
+use Rattle.idl_types.specs.Definitions.{declared}
 use Rattle.tool_types.specs.Types as spec
 use Rattle.tool_types.specs.declared.declaring.Declared.{Declared}
 use Rattle.tool_types.specs.declared.declaring.Declared.TheVariants.{Types, Object}
@@ -30,18 +30,18 @@ Identifies-prop t ids p q = λ i. record {
   complete = Identifier-set _ _ p.complete q.complete i;
 }
 
-AreIdentified-prop : (ts : List Named) (ids : List Identifiers) → IsProp (AreIdentified ts ids)
+AreIdentified-prop : (ts : idl_types.Declared) (ids : List Identifiers) → IsProp (AreIdentified ts ids)
 AreIdentified-prop [] [] = Unit-prop
 AreIdentified-prop [] (ids ∷ more) = λ p q. absurd p
 AreIdentified-prop (t ∷ ts) [] = λ p q. absurd p
 AreIdentified-prop (t ∷ ts) (ids ∷ more) = ×_prop (Identifies-prop _ _) (AreIdentified-prop ts more)
 
-AreGood-prop : (ts : List Named) → IsProp (AreGood ts)
+AreGood-prop : (ts : idl_types.Declared) → IsProp (AreGood ts)
 AreGood-prop [] = Unit-prop
 AreGood-prop (t ∷ ts) = ×_prop (Coded-set coded_bool _ _) (×_prop (Coded-set (coded_option (coded× coded_ℕ (coded_list step.the_row.coded))) _ _) (AreGood-prop ts))
 
 IsGood-prop : (d : Declared) → IsProp (IsGood d)
-IsGood-prop (Types named ids) = ×_prop (AreGood-prop named) (AreIdentified-prop named ids)
+IsGood-prop (Types ds ids) = ×_prop (AreGood-prop (declared ds)) (AreIdentified-prop (declared ds) ids)
 IsGood-prop (Object id name) = Unit-prop
 
 pub AllGood-prop : (ds : List Declared) → IsProp (AllGood ds)

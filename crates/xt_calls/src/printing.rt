@@ -16,7 +16,7 @@ use tool_types::Declared;
 use tool_types::names::top_named;
 use tool_words::named_by;
 use type_trees::{Named, XType};
-use xt_idl::print;
+use xt_idl::{print, print_declared};
 use xt_lists::{OutOfMemory, Row, Text};
 
 fn text_in(name: &Option<Text>) -> Option<&Text>
@@ -99,7 +99,7 @@ fn print_text(alloc: Global, declared: &Declared) -> Result<Text, OutOfMemory>
     ensures { IfOk result (λ text. text ≡ spec.text_in (declared_view declared.now)) }
 {
     match declared {
-        Declared::Types { types, .. } => print(alloc, types),
+        Declared::Types { types, .. } => print_declared(alloc, types),
         Declared::Object { .. } => Ok(Text::new(alloc)),
     }
 }

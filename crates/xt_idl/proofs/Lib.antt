@@ -2,7 +2,10 @@ pub mod Gives
 pub mod Lists
 pub mod ByName
 pub mod TypesRead
-pub mod Sound
-mod SoundParts
+mod NamedAt
+mod Measuring
+mod Lightened
+mod ValidBy
+mod Outlined
 mod TextLoops
 pub mod Beginnings

@@ -1,5 +1,7 @@
 pub mod Leading
-pub mod Checking
+pub mod Measures
+pub mod Light
+pub mod Outlines
 pub mod Whole
 pub mod Worked
 pub mod Again

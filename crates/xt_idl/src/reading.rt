@@ -1,29 +1,32 @@
-ghost use Rattle.std.specs.Prelude.{◌≡◌, ◌≤◌, length, true, None, IfNone, IfOk, OnOk};
+ghost use Rattle.std.specs.Prelude.{◌≡◌, ◌≤◌, [], length, true, None, IfNone, IfOk, OnOk};
 ghost use Rattle.type_trees.specs.View.{tree};
 ghost use Rattle.type_rules.specs.Faults.{fault_view};
 ghost use Rattle.type_rules.specs.Valid.{type_fault};
 ghost use Rattle.idl_input.specs.Input.{Reads, keyword_at};
 ghost use Rattle.idl_types.specs.State.{declared};
+ghost use Rattle.idl_types.specs.Definitions.{declared as declarations_view, defined, fits};
 ghost use Rattle.idl_types.specs.Views.{state};
 ghost use Rattle.idl_definitions.specs.Views.{made};
-ghost use Rattle.xt_idl.specs.Checking.{has_sound_parts, all_valid};
+ghost use Rattle.xt_idl.specs.Measures.{all_measured, measured};
 ghost use Rattle.xt_idl.specs.Whole as spec;
 ghost use Rattle.xt_idl.specs.Whole.{Leads, Changes, Declares};
 
-use crate::checking::check_definition;
+use crate::fitting::is_valid;
 use crate::leading::leading_notes;
+use crate::measures::{Known, Measure, measure_definition};
+use crate::trees::{defined_type, trees_of};
 use idl_definitions::{
     Made, bitmask_def, enum_def, settings_of, struct_def, typedef_def, union_def,
 };
 use idl_input::{Begins, DefinitionWord, IdlFault, Keyword, Tokens};
 use idl_tokens::TokenKind;
 use idl_tokens::names::Meaning;
-use idl_types::Reader;
+use idl_types::{Declaration, Declarations, Definition, Reader};
 use std::alloc::Global;
-use type_rules::TypeFault;
-use type_trees::{Named, Path};
+use type_rules::{TypeFault, check_type, fault_here};
+use type_trees::{Named, XType};
 use xt_annotations::Placed;
-use xt_lists::Row;
+use xt_lists::{OutOfMemory, Row, Text};
 
 #[tactic(auto, using(crate::proofs::Beginnings::definition_begins))]
 fn definition_by<'a>(
@@ -32,7 +35,8 @@ fn definition_by<'a>(
     notes: &[Placed],
     keyword: Option<Keyword>,
 ) -> Result<Made<'a>, IdlFault>
-    ensures { Reads made (spec.definition_by (state reader.now) notes.now keyword tokens.old) result tokens.new }
+    ensures read { Reads (made (state reader.now).types) (spec.definition_by (state reader.now) notes.now keyword tokens.old) result tokens.new }
+    ensures fits { IfOk result (λ m. m.fits ≡ true → fits (state reader.now).types m.definition ≡ true) }
 {
     match Begins::of(keyword) {
         Begins::Definition(DefinitionWord::Struct) => struct_def(
@@ -57,57 +61,86 @@ fn definition_by<'a>(
     }
 }
 
-/// A definition, from its keyword on. What it uses is sound.
+/// A definition, from its keyword on.
 fn definition<'a>(
     tokens: &mut Tokens<'a>,
     reader: &Reader<'a>,
     notes: &[Placed],
 ) -> Result<Made<'a>, IdlFault>
-    requires { all_valid (state reader.now).types ≡ true }
-    ensures read { Reads made (spec.definition_by (state reader.now) notes.now (keyword_at tokens.old) tokens.old) result tokens.new }
-    ensures sound { IfOk result (λ m. has_sound_parts (tree m.ty) ≡ true) }
+    ensures read { Reads (made (state reader.now).types) (spec.definition_by (state reader.now) notes.now (keyword_at tokens.old) tokens.old) result tokens.new }
+    ensures fits { IfOk result (λ m. m.fits ≡ true → fits (state reader.now).types m.definition ≡ true) }
 {
     let keyword = tokens.keyword();
     definition_by(tokens, reader, notes, keyword)
 }
 
+/// The tree of a definition, where it is not known to be valid.
+fn tree_of(
+    alloc: Global,
+    types: &[Declaration],
+    name: &Text,
+    definition: &Definition,
+) -> Result<XType, OutOfMemory>
+    ensures { IfOk result (λ t. tree t ≡ defined (declarations_view types.now) name.now definition.now) }
+{
+    let trees = trees_of(alloc, types)?;
+    defined_type(alloc, trees.as_slice(), name, definition)
+}
+
 /// The rule that a type breaks, and where.
-fn fault_of(found: &Made<'_>) -> Option<TypeFault>
-    requires { has_sound_parts (tree found.now.ty) ≡ true }
-    ensures fault { fault_view result ≡ spec.fault_of (made found.now) }
-    ensures valid { IfNone result (type_fault (tree found.now.ty) ≡ None) }
+fn fault_of(
+    alloc: Global,
+    known: &Known<'_>,
+    measure: &Measure,
+    found: &Made<'_>,
+) -> Result<Option<TypeFault>, OutOfMemory>
+    requires { measure.now ≡ measured (defined (declarations_view known.now.types.now) found.now.full found.now.definition) }
+    ensures fault { IfOk result (λ f. fault_view f ≡ spec.fault_of (made (declarations_view known.now.types.now) found.now)) }
+    ensures valid { IfOk result (λ f. IfNone f (type_fault (defined (declarations_view known.now.types.now) found.now.full found.now.definition) ≡ None)) }
+    ensures fits { IfOk result (λ f. IfNone f (found.now.fits ≡ true)) }
 {
     if !found.fits {
-        return Some(TypeFault {
-            rule: 17,
-            node: Path::empty(),
-        });
+        return Ok(Some(fault_here(17)));
     }
-    check_definition(&found.ty).err()
+    if is_valid(alloc, known, measure, &found.full, &found.definition)? {
+        return Ok(None);
+    }
+    let ty = tree_of(alloc, known.types, &found.full, &found.definition)?;
+    Ok(check_type(&ty).err())
 }
 
 /// Declares a type, where it is valid.
-#[tactic(auto, using(crate::proofs::SoundParts::valid_more))]
-fn declare<'a>(reader: &mut Reader<'a>, found: Made<'a>) -> Result<(), IdlFault>
-    requires sound { has_sound_parts (tree found.ty) ≡ true }
-    requires valid { all_valid (state reader.old).types ≡ true }
-    ensures valid { OnOk result (all_valid (state reader.new).types ≡ true) }
-    ensures changes { Changes (spec.valid_or (state reader.old) (made found.entry) (spec.fault_of (made found.entry))) result (state reader.new) }
+#[tactic(auto, using(std::proofs::lemmas::List::map_push))]
+fn declare<'a>(
+    reader: &mut Reader<'a>,
+    measures: &mut Row<Measure>,
+    found: Made<'a>,
+) -> Result<(), IdlFault>
+    requires fits { found.fits ≡ true → fits (state reader.old).types found.definition ≡ true }
+    requires same { measures.old ≡ all_measured (state reader.old).types }
+    ensures same { OnOk result (measures.new ≡ all_measured (state reader.new).types) }
+    ensures changes { Changes (spec.valid_or (state reader.old) (made (state reader.old).types found.entry) (spec.fault_of (made (state reader.old).types found.entry))) result (state reader.new) }
 {
-    if let Some(fault) = fault_of(&found) {
+    let known = Known {
+        types: reader.types(),
+        measures: measures.as_slice(),
+    };
+    let measure = measure_definition(&known, &found.full, &found.definition);
+    if let Some(fault) = fault_of(reader.alloc(), &known, &measure, &found)? {
         return Err(IdlFault::Invalid {
             at: found.at,
             fault,
         });
     }
+    measures.push(measure)?;
     let Made {
         at: _,
         name,
         full,
-        ty,
+        definition,
         fits: _,
     } = found;
-    reader.declare(name, full, ty)?;
+    reader.declare(name, full, definition)?;
     Ok(())
 }
 
@@ -116,21 +149,21 @@ fn declare<'a>(reader: &mut Reader<'a>, found: Made<'a>) -> Result<(), IdlFault>
 fn typed<'a>(
     tokens: &mut Tokens<'a>,
     reader: &mut Reader<'a>,
+    measures: &mut Row<Measure>,
     notes: &[Placed],
 ) -> Result<(), IdlFault>
-    requires { all_valid (state reader.old).types ≡ true }
-    ensures valid { OnOk result (all_valid (state reader.new).types ≡ true) }
+    requires same { measures.old ≡ all_measured (state reader.old).types }
+    ensures same { OnOk result (measures.new ≡ all_measured (state reader.new).types) }
     ensures leads { Leads (spec.typed (state reader.old) notes.now tokens.old) result (state reader.new) tokens.new }
 {
     let found = definition(tokens, reader, notes)?;
-    declare(reader, found)
+    declare(reader, measures, found)
 }
 
 /// Opens a module's scope.
 #[tactic(auto, unfolding(crate::specs::Whole::module_def))]
 fn module_def<'a>(tokens: &mut Tokens<'a>, reader: &mut Reader<'a>) -> Result<(), IdlFault>
-    requires { all_valid (state reader.old).types ≡ true }
-    ensures valid { OnOk result (all_valid (state reader.new).types ≡ true) }
+    ensures same { OnOk result ((state reader.new).types ≡ (state reader.old).types) }
     ensures leads { Leads (spec.module_def (state reader.old) tokens.old) result (state reader.new) tokens.new }
 {
     tokens.take();
@@ -155,11 +188,12 @@ fn module_def<'a>(tokens: &mut Tokens<'a>, reader: &mut Reader<'a>) -> Result<()
 fn definition_or_module<'a>(
     tokens: &mut Tokens<'a>,
     reader: &mut Reader<'a>,
+    measures: &mut Row<Measure>,
     notes: &[Placed],
     keyword: Option<Keyword>,
 ) -> Result<(), IdlFault>
-    requires { all_valid (state reader.old).types ≡ true }
-    ensures valid { OnOk result (all_valid (state reader.new).types ≡ true) }
+    requires same { measures.old ≡ all_measured (state reader.old).types }
+    ensures same { OnOk result (measures.new ≡ all_measured (state reader.new).types) }
     ensures leads { Leads (spec.definition_or_module (state reader.old) notes.now keyword tokens.old) result (state reader.new) tokens.new }
 {
     match Begins::of(keyword) {
@@ -169,15 +203,14 @@ fn definition_or_module<'a>(
         | Begins::Collection(_)
         | Begins::Outside
         | Begins::Nothing
-        | Begins::NoKeyword => typed(tokens, reader, notes),
+        | Begins::NoKeyword => typed(tokens, reader, measures, notes),
     }
 }
 
 /// The end of a module.
 #[tactic(auto, unfolding(crate::specs::Whole::closed))]
 fn closed<'a>(tokens: &mut Tokens<'a>, reader: &mut Reader<'a>) -> Result<(), IdlFault>
-    requires { all_valid (state reader.old).types ≡ true }
-    ensures valid { OnOk result (all_valid (state reader.new).types ≡ true) }
+    ensures same { OnOk result ((state reader.new).types ≡ (state reader.old).types) }
     ensures leads { Leads (spec.closed (state reader.old) tokens.old) result (state reader.new) tokens.new }
 {
     tokens.take();
@@ -195,9 +228,13 @@ fn may_close(reader: &Reader<'_>) -> bool
 
 /// A definition, the opening of a module or a module's end.
 #[tactic(auto, unfolding(crate::specs::Whole::item))]
-fn item<'a>(tokens: &mut Tokens<'a>, reader: &mut Reader<'a>) -> Result<(), IdlFault>
-    requires { all_valid (state reader.old).types ≡ true }
-    ensures valid { OnOk result (all_valid (state reader.new).types ≡ true) }
+fn item<'a>(
+    tokens: &mut Tokens<'a>,
+    reader: &mut Reader<'a>,
+    measures: &mut Row<Measure>,
+) -> Result<(), IdlFault>
+    requires same { measures.old ≡ all_measured (state reader.old).types }
+    ensures same { OnOk result (measures.new ≡ all_measured (state reader.new).types) }
     ensures leads { Leads (spec.item (state reader.old) tokens.old) result (state reader.new) tokens.new }
 {
     if may_close(reader) && tokens.sees(b"}") {
@@ -205,7 +242,7 @@ fn item<'a>(tokens: &mut Tokens<'a>, reader: &mut Reader<'a>) -> Result<(), IdlF
     }
     let notes = leading_notes(tokens, reader.alloc())?;
     let keyword = tokens.keyword();
-    definition_or_module(tokens, reader, notes.as_slice(), keyword)
+    definition_or_module(tokens, reader, measures, notes.as_slice(), keyword)
 }
 
 /// Whether the text ends here, with all modules closed.
@@ -225,15 +262,21 @@ fn at_end(tokens: &Tokens<'_>, reader: &Reader<'_>) -> bool
 }
 
 #[tactic(auto, using(crate::proofs::TextLoops::items_go, crate::proofs::TextLoops::items_end))]
-fn items<'a>(tokens: &mut Tokens<'a>, reader: &mut Reader<'a>, turns: usize) -> Result<(), IdlFault>
-    requires { all_valid (state reader.old).types ≡ true }
-    ensures { Leads (spec.items_from turns (state reader.old) tokens.old) result (state reader.new) tokens.new }
+fn items<'a>(
+    tokens: &mut Tokens<'a>,
+    reader: &mut Reader<'a>,
+    measures: &mut Row<Measure>,
+    turns: usize,
+) -> Result<(), IdlFault>
+    requires same { measures.old ≡ all_measured (state reader.old).types }
+    ensures same { OnOk result (measures.new ≡ all_measured (state reader.new).types) }
+    ensures leads { Leads (spec.items_from turns (state reader.old) tokens.old) result (state reader.new) tokens.new }
 {
     for _turn in 0..turns {
         if at_end(tokens, reader) {
             return Ok(());
         }
-        item(tokens, reader)?;
+        item(tokens, reader, measures)?;
     }
     if at_end(tokens, reader) {
         Ok(())
@@ -250,12 +293,22 @@ fn items<'a>(tokens: &mut Tokens<'a>, reader: &mut Reader<'a>, turns: usize) -> 
 /// a type that breaks a rule of valid types, which is tried only where the type's definition is whole. OutOfMemory may come in place of
 /// any of these.
 #[tactic(auto, unfolding(crate::specs::Whole::idl))]
+pub fn declarations(alloc: Global, text: &[u8]) -> Result<Declarations, IdlFault>
+    requires { length text.now ≤ 1048576 }
+    ensures { Declares (spec.idl text.now) declarations_view result }
+{
+    let mut reader = Reader::new(alloc);
+    let mut measures = Row::new(alloc);
+    let mut tokens = Tokens::new(text);
+    items(&mut tokens, &mut reader, &mut measures, text.len())?;
+    Ok(reader.into_types())
+}
+
+/// The types that an IDL text declares, as `declarations` has them, each as a tree.
 pub fn parse(alloc: Global, text: &[u8]) -> Result<Row<Named>, IdlFault>
     requires { length text.now ≤ 1048576 }
     ensures { Declares (spec.idl text.now) declared result }
 {
-    let mut reader = Reader::new(alloc);
-    let mut tokens = Tokens::new(text);
-    items(&mut tokens, &mut reader, text.len())?;
-    Ok(reader.into_types())
+    let found = declarations(alloc, text)?;
+    Ok(trees_of(alloc, found.as_slice())?)
 }

@@ -13,9 +13,9 @@ use Rattle.idl_input.specs.Words.{is_keyword}
 use Rattle.idl_input.specs.Input.{want, take_token}
 use Rattle.idl_types.specs.State.{State}
 use Rattle.idl_types.specs.Names.{innermost, full_name}
+use Rattle.idl_types.specs.Definitions.{ListedMembers}
 use Rattle.idl_definitions.specs.declared.settings.Settings.{Settings}
 use Rattle.idl_definitions.specs.Notes.{settings}
-use Rattle.idl_definitions.specs.Members.{ListedMembers}
 use Rattle.idl_definitions.specs.Structures.{Made, NewName, Heritage, made_from, structure_of, struct_def, in_profile, typedef_def}
 use Rattle.idl_definitions.specs.Numbered.{numbered_def, enum_def, bitmask_def}
 use Rattle.idl_definitions.specs.Unions.{union_def}

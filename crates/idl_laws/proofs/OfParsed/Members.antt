@@ -16,7 +16,8 @@ use Rattle.idl_tokens.specs.names.Sets.{has}
 use Rattle.idl_input.specs.Words.{is_keyword}
 use Rattle.idl_input.specs.Input.{here, want, turns, notes_at}
 use Rattle.idl_types.specs.State.{State, Declared}
-use Rattle.idl_definitions.specs.Members.{dims_from, dims, with_dims, dimensioned, once, new_name, ListedMembers, id_for, shaped, Listed, another, members_of_type}
+use Rattle.idl_types.specs.Definitions.{ListedMembers}
+use Rattle.idl_definitions.specs.Members.{dims_from, dims, with_dims, dimensioned, once, new_name, id_for, shaped, Listed, another, members_of_type}
 use Rattle.idl_definitions.specs.Structures.{inherited, members}
 use Rattle.idl_laws.specs.Printable.{IsUse, IsTyped, EachBound, EachMember, is_spelled}
 use Rattle.xt_idl.proofs.Gives.{Yields, bind, behind, next, given, fails, if_eaten, by_input, at_input, name_yields, bound_yields}

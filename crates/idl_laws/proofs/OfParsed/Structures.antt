@@ -11,8 +11,8 @@ use Rattle.type_trees.specs.sizes.TypeNodes.{nodes, member_nodes}
 use Rattle.type_rules.specs.Valid.{type_fault}
 use Rattle.type_rules.proofs.Kept.{limits_kept}
 use Rattle.idl_types.specs.State.{State, Declared}
-use Rattle.idl_definitions.specs.Members.{ListedMembers}
-use Rattle.idl_definitions.specs.Structures.{Heritage, heritage, no_heritage, as_base, listed, base_clause}
+use Rattle.idl_types.specs.Definitions.{ListedMembers, as_base, listed}
+use Rattle.idl_definitions.specs.Structures.{Heritage, heritage, no_heritage, base_clause}
 use Rattle.idl_printer.specs.Parts.{members_behind}
 use Rattle.idl_printer.specs.Lines.{last_base, count_of}
 use Rattle.idl_laws.specs.Printable.{IsNamed, IsOnBase}

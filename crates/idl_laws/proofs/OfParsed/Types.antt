@@ -1,5 +1,4 @@
 -- What types that were read may be used.
-use Rattle.type_trees.specs.Trees.{Tree}
 use Rattle.idl_types.specs.State.{State, Declared}
 use Rattle.idl_types.specs.Names.{type_by_name}
 use Rattle.idl_types.specs.Types.{a_type}

@@ -1,42 +1,25 @@
 -- What is declared, listed record after record.
-use Rattle.std.proofs.Common.{◌≡◌, ℕ, ◌+◌, ◌<◌, List, [], ◌∷◌, ◌++◌, map, append_assoc, length, drop, get_or, true, None, Some, Result, Ok, Err, refl, sym, ap, ◌∙◌, subst}
+use Rattle.std.proofs.Common.{◌≡◌, ℕ, ◌+◌, ◌<◌, List, [], ◌∷◌, ◌++◌, map, length, drop, get_or, None, Some, Result, Ok, Err, refl, sym, ap, ◌∙◌, subst}
 use Rattle.std.specs.Prelude.{Option, slice_get}
 use Rattle.std.proofs.lemmas.List.{drop_more}
 use Rattle.std.proofs.lemmas.Option.{get_or_from_slice_get, slice_get_within}
-use Rattle.std.specs.List.{concat}
 use Rattle.type_trees.specs.declared.types.HashId.{HashId}
-use Rattle.type_trees.specs.declared.types.Named.{Named}
-use Rattle.type_trees.specs.View.{tree}
 use Rattle.type_object.specs.Pools.{Texts, Refusal, added}
 use Rattle.type_resolve.specs.Adding.{after_added, all_added}
-use Rattle.type_resolve.specs.Objects.{has_objects, texts}
-use Rattle.idl_types.specs.State.{declared}
 use Rattle.tool_runs.specs.output.Outputs.{Output, after_pieces}
 use Rattle.tool_runs.specs.output.Runs.{Leads}
 use Rattle.tool_runs.specs.Commands.{only}
 use Rattle.tool_types.specs.declared.declaring.Declared.{Declared as Record}
-use Rattle.tool_types.specs.Declaring.{AllGood, AreGood, IsGood, declared_view}
-use Rattle.tool_commands.specs.listing.Listing.{all_texts, object_record, texts_in, texts_of, type_line}
+use Rattle.tool_types.specs.Declaring.{AllGood, IsGood, declared_view}
+use Rattle.tool_commands.specs.listing.Listing.{all_texts, object_record, texts_in}
 
 -- ---- the next of a list
-
-pub next_type : (types : List Named) (i : ℕ) (t : Named) → i < length types → t ≡ get_or types i t → drop i types ≡ t ∷ drop (i + 1) types
-next_type types i t lt is = drop_more types i t lt ∙ ap (λ (x : Named). x ∷ drop (i + 1) types) (sym is)
 
 pub next_record : (records : List Record) (i : ℕ) (d : Record) → i < length records → d ≡ get_or records i d → drop i records ≡ d ∷ drop (i + 1) records
 next_record records i d lt is = drop_more records i d lt ∙ ap (λ (x : Record). x ∷ drop (i + 1) records) (sym is)
 
-pub good_type : (types : List Named) (i : ℕ) (t : Named) → drop i types ≡ t ∷ drop (i + 1) types → AreGood (drop i types) → (has_objects (tree t.ty) ≡ true) × AreGood (drop (i + 1) types)
-good_type types i t e good = let g = subst AreGood e good in (g.0, g.1.1)
-
 pub good_record : (records : List Record) (i : ℕ) (d : Record) → drop i records ≡ d ∷ drop (i + 1) records → AllGood (drop i records) → IsGood d × AllGood (drop (i + 1) records)
 good_record records i d e good = subst AllGood e good
-
--- ---- lines of types
-
--- one more line
-pub line_on : (text line : List ℕ) (t : Named) (ts : List Named) → line ≡ type_line (t.name, tree t.ty) → text ++ concat (map type_line (declared (t ∷ ts))) ≡ (text ++ line) ++ concat (map type_line (declared ts))
-line_on text line t ts is = ap (λ l. text ++ (l ++ concat (map type_line (declared ts)))) (sym is) ∙ sym (append_assoc text line (concat (map type_line (declared ts))))
 
 -- ---- objects
 
@@ -54,9 +37,6 @@ all_behind a b (x ∷ xs) ys e = added_behind (added a x) b xs ys (λ p. all_beh
 pub none_added : (a : Texts) → all_added a [] ≡ (a, None)
 unfolding all_added
 none_added a = refl
-
-pub type_added : (a b : Texts) (t : Named) (ts : List Named) → all_added a (texts (tree t.ty)) ≡ (b, None) → all_added a (texts_of (declared (t ∷ ts))) ≡ all_added b (texts_of (declared ts))
-type_added a b t ts e = all_behind a b (texts (tree t.ty)) (texts_of (declared ts)) e
 
 pub record_added : (a b : Texts) (d : Record) (ds : List Record) → all_added a (texts_in (declared_view d)) ≡ (b, None) → all_added a (all_texts (map declared_view (d ∷ ds))) ≡ all_added b (all_texts (map declared_view ds))
 record_added a b d ds e = all_behind a b (texts_in (declared_view d)) (all_texts (map declared_view ds)) e

@@ -15,16 +15,17 @@ use Rattle.idl_types.specs.State as idl_types
 use Rattle.xt_idl.specs.Whole.{idl}
 use Rattle.tool_runs.specs.output.Outputs.{Refusal, ◌>>=◌}
 use Rattle.tool_types.specs.Types.{Declared, types, object, Declaration, declare, declared_as, declared_by, name_in, object_added, text_parsed, with_all, with_objects}
-use Rattle.tool_commands.specs.listing.Listing.{all_texts, are_texts, is_text, texts_in, texts_of, FrontHasCompiled}
+use Rattle.type_resolve.specs.Definitions.{types_texts}
+use Rattle.tool_commands.specs.listing.Listing.{all_texts, are_texts, is_text, texts_in, FrontHasCompiled}
 use Rattle.tool_commands.proofs.OfListing.Listed.{all_behind, none_added}
 
 -- ---- the objects of a text's types
 
-types_on : (k : ℕ) (pool more : Texts) (xs : List (List ℕ)) (ts : idl_types.Declared) → ((p : Texts) → with_objects k p ts ≡ Ok more → all_added p (texts_of ts) ≡ (more, None)) → (r : Texts × Option pools.Refusal) → all_added pool xs ≡ r → (with_all k r >>= λ p. with_objects k p ts) ≡ Ok more → all_added pool (xs ++ texts_of ts) ≡ (more, None)
-types_on k pool more xs ts rest (p, None) is e = all_behind pool p xs (texts_of ts) is ∙ rest p e
+types_on : (k : ℕ) (pool more : Texts) (xs : List (List ℕ)) (ts : idl_types.Declared) → ((p : Texts) → with_objects k p ts ≡ Ok more → all_added p (types_texts ts) ≡ (more, None)) → (r : Texts × Option pools.Refusal) → all_added pool xs ≡ r → (with_all k r >>= λ p. with_objects k p ts) ≡ Ok more → all_added pool (xs ++ types_texts ts) ≡ (more, None)
+types_on k pool more xs ts rest (p, None) is e = all_behind pool p xs (types_texts ts) is ∙ rest p e
 types_on k pool more xs ts rest (p, Some refusal) is e = absurd cc
 
-types_added : (k : ℕ) (pool more : Texts) (ts : idl_types.Declared) → with_objects k pool ts ≡ Ok more → all_added pool (texts_of ts) ≡ (more, None)
+types_added : (k : ℕ) (pool more : Texts) (ts : idl_types.Declared) → with_objects k pool ts ≡ Ok more → all_added pool (types_texts ts) ≡ (more, None)
 unfolding with_objects
 types_added k pool more [] e = let same : pool ≡ more = cc in none_added pool ∙ ap (λ (p : Texts). let x : Texts × Option pools.Refusal = (p, None) in x) same
 types_added k pool more (t ∷ ts) e = types_on k pool more (texts t.1) ts (λ p. types_added k p more ts) (all_added pool (texts t.1)) refl e

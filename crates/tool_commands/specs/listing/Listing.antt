@@ -9,8 +9,9 @@ use Rattle.type_trees.specs.Trees.{Tree}
 use Rattle.object_formats.specs.Objects as o
 use Rattle.type_object.specs.Pools.{Texts}
 use Rattle.type_resolve.specs.Adding.{all_added}
-use Rattle.type_resolve.specs.Objects.{identifier, texts}
-use Rattle.idl_types.specs.State as idl_types
+use Rattle.type_resolve.specs.Objects.{identifier}
+use Rattle.type_resolve.specs.Definitions.{types_texts}
+use Rattle.type_resolve.specs.declared.sides.Identifiers.{Identifiers}
 use Rattle.idl_printer.specs.Lines.{printed}
 use Rattle.tool_runs.specs.output.Outputs.{Refusal, ◌>>=◌}
 use Rattle.tool_types.specs.Types.{Declared, types, object, declare}
@@ -24,6 +25,15 @@ identifier_text t = []
 -- a type's full name, and its minimal and complete identifiers
 abbrev pub type_line : List ℕ × Tree → List ℕ
 type_line t = codes "// " ++ (t.0 ++ 32 ∷ (identifier_text (identifier false t.1) ++ 32 ∷ (identifier_text (identifier true t.1) ++ 10 ∷ [])))
+
+-- the same of a name, by the identifiers that stand beside it
+abbrev pub named_line : List ℕ → Identifiers → List ℕ
+named_line name ids = codes "// " ++ (name ++ 32 ∷ (identifier_text (o.hash ids.minimal) ++ 32 ∷ (identifier_text (o.hash ids.complete) ++ 10 ∷ [])))
+
+abbrev pub named_lines : List (List ℕ) → List Identifiers → List ℕ
+named_lines [] ids = []
+named_lines (name ∷ names) [] = []
+named_lines (name ∷ names) (i ∷ ids) = named_line name i ++ named_lines names ids
 
 -- the objects of types have no names where they are minimal
 abbrev pub name_or_none : Option (List ℕ) → List ℕ
@@ -46,13 +56,9 @@ show_lines records = declare 0 [] records >>= λ front. Ok (all_shown front.0)
 
 -- ---- `compile`: the objects of the types of texts, what stands inside first, each once
 
-abbrev pub texts_of : idl_types.Declared → List (List ℕ)
-texts_of [] = []
-texts_of (t ∷ ts) = texts t.1 ++ texts_of ts
-
 -- an object of the front is not written again
 abbrev pub texts_in : Declared → List (List ℕ)
-texts_in (types ts) = texts_of ts
+texts_in (types ts) = types_texts ts
 texts_in (object id name) = []
 
 abbrev pub all_texts : List Declared → List (List ℕ)

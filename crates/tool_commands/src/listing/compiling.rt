@@ -1,12 +1,13 @@
 ghost use Rattle.std.specs.Prelude.{◌≡◌, ◌≤◌, [], ◌∷◌, Some, None, OnOk, length, map};
 ghost use Rattle.type_resolve.specs.Adding.{all_added};
-ghost use Rattle.idl_types.specs.State as idl_types;
+ghost use Rattle.type_resolve.specs.Definitions.{types_texts};
+ghost use Rattle.idl_types.specs.Definitions.{declared};
 ghost use Rattle.tool_runs.specs.output.Outputs.{Output, after_pieces, finished, unless_refused};
 ghost use Rattle.xt_io.specs.Records.{record_octets};
 ghost use Rattle.tool_runs.specs.output.Runs.{Steps, StopsWriting};
 ghost use Rattle.tool_runs.specs.front.Reading.{AreWithin};
 ghost use Rattle.tool_runs.specs.Commands.{answer_to, only};
-ghost use Rattle.tool_types.specs.Declaring.{AllGood, AreGood, IsGood, declared_view};
+ghost use Rattle.tool_types.specs.Declaring.{AllGood, IsGood, declared_view};
 ghost use Rattle.tool_commands.specs.listing.Listing as spec;
 
 use std::alloc::Global;
@@ -14,8 +15,8 @@ use tool_runs::output::{Ending, Halt, Stop, Style, record};
 use tool_runs::{Answers, say_pieces};
 use tool_types::{Declared, declare};
 use type_object::Pool;
-use type_resolve::objects_of;
-use type_trees::Named;
+use type_resolve::objects_declared;
+use xt_idl::Declarations;
 use xt_io::{Item, Kind, Sink};
 use xt_lists::OutOfMemory;
 
@@ -25,17 +26,13 @@ use xt_lists::OutOfMemory;
 pub struct Compiling;
 
 // The types' objects are in the pool of the front already, so no text is refused here.
-fn add_types(alloc: Global, types: &[Named], pool: &mut Pool) -> Result<(), OutOfMemory>
-    requires { AreGood types.now }
-    ensures { OnOk result (all_added pool.old (spec.texts_of (idl_types.declared types.now)) ≡ (pool.new, None)) }
+fn add_types(alloc: Global, types: &Declarations, pool: &mut Pool) -> Result<(), OutOfMemory>
+    ensures { OnOk result (all_added pool.old (types_texts (declared types.now)) ≡ (pool.new, None)) }
 {
-    for named in types {
-        match objects_of(alloc, named, pool) {
-            Ok(_) => {}
-            Err(_) => return Err(OutOfMemory),
-        }
+    match objects_declared(alloc, types.as_slice(), pool) {
+        Ok(_) => Ok(()),
+        Err(_) => Err(OutOfMemory),
     }
-    Ok(())
 }
 
 fn add_record(alloc: Global, declared: &Declared, pool: &mut Pool) -> Result<(), OutOfMemory>
@@ -43,7 +40,7 @@ fn add_record(alloc: Global, declared: &Declared, pool: &mut Pool) -> Result<(),
     ensures { OnOk result (all_added pool.old (spec.texts_in (declared_view declared.now)) ≡ (pool.new, None)) }
 {
     match declared {
-        Declared::Types { types, .. } => add_types(alloc, types.as_slice(), pool),
+        Declared::Types { types, .. } => add_types(alloc, types, pool),
         Declared::Object { .. } => Ok(()),
     }
 }

@@ -1,13 +1,12 @@
-ghost use Rattle.std.specs.Prelude.{◌≡◌, ◌≤◌, ◌++◌, Some, IfOk, OnOk, length, map};
+ghost use Rattle.std.specs.Prelude.{◌≡◌, ◌≤◌, ◌++◌, Some, IfOk, OnOk, length, map, slice_get};
 ghost use Rattle.std.specs.List.{concat};
-ghost use Rattle.type_trees.specs.View.{tree};
-ghost use Rattle.idl_types.specs.State as idl_types;
+ghost use Rattle.idl_types.specs.Definitions.{declared};
 ghost use Rattle.idl_printer.specs.Lines.{printed};
 ghost use Rattle.tool_runs.specs.output.Outputs.{Output, after_pieces, finished, unless_refused};
 ghost use Rattle.tool_runs.specs.output.Runs.{Steps, StopsWriting};
 ghost use Rattle.tool_runs.specs.front.Reading.{AreWithin};
 ghost use Rattle.tool_runs.specs.Commands.{answer_to, only};
-ghost use Rattle.tool_types.specs.Declaring.{AllGood, AreIdentified, Identifies, IsGood, declared_view};
+ghost use Rattle.tool_types.specs.Declaring.{AllGood, AreIdentified, IsGood, declared_view};
 ghost use Rattle.tool_commands.specs.listing.Listing as spec;
 
 use std::alloc::Global;
@@ -15,10 +14,10 @@ use tool_runs::output::{Ending, Halt, Stop, Style};
 use tool_runs::{Answers, say_pieces};
 use tool_types::{Declared, declare};
 use type_resolve::Identifiers;
-use type_trees::{HashId, Named};
-use xt_idl::print;
+use type_trees::HashId;
+use xt_idl::{Declaration, Declarations, print_declared};
 use xt_io::{Item, Sink};
-use xt_lists::{OutOfMemory, Row, Text};
+use xt_lists::{OutOfMemory, Text};
 
 /// The types that texts declare, as printed IDL and a line for each with its name and its minimal and complete identifiers; of an object a
 /// line with its type's name, or `-`, and its identifier.
@@ -45,38 +44,47 @@ fn object_text(alloc: Global, id: &HashId, name: &Option<Text>) -> Result<Text, 
 }
 
 // A type's line.
-fn type_text(alloc: Global, named: &Named, ids: &Identifiers) -> Result<Text, OutOfMemory>
-    requires { Identifies (tree named.now.ty) ids.now }
-    ensures { IfOk result (λ text. text ≡ spec.type_line (named.now.name, tree named.now.ty)) }
+fn type_text(alloc: Global, name: &Text, ids: &Identifiers) -> Result<Text, OutOfMemory>
+    ensures { IfOk result (λ text. text ≡ spec.named_line name.now ids.now) }
 {
     let mut text = Text::from_octets(alloc, b"// ")?;
-    text.append(named.name.octets())?;
+    text.append(name.octets())?;
     let end = format!(in alloc; " {} {}\n", ids.minimal, ids.complete)?;
     text.append(end.as_bytes())?;
     Ok(text)
 }
 
+fn ids_at(ids: &[Identifiers], at: usize) -> Option<Identifiers>
+    ensures { result ≡ slice_get ids.now at }
+{
+    ids.get(at).copied()
+}
+
+// The lines of types, beside which their identifiers stand.
 fn push_lines(
     alloc: Global,
-    types: &[Named],
+    types: &[Declaration],
     ids: &[Identifiers],
     text: &mut Text,
 ) -> Result<(), OutOfMemory>
-    requires { AreIdentified types.now ids.now }
-    ensures { OnOk result (text.new ≡ text.old ++ concat (map spec.type_line (idl_types.declared types.now))) }
+    ensures { OnOk result (text.new ≡ text.old ++ spec.named_lines (map (λ d. d.name) types.now) ids.now) }
 {
-    for (at, named) in types.iter().enumerate() {
-        let line = type_text(alloc, named, &ids[at])?;
+    for (at, declaration) in types.iter().enumerate() {
+        let Some(own) = ids_at(ids, at) else {
+            return Ok(());
+        };
+        let line = type_text(alloc, &declaration.name, &own)?;
         text.append(line.octets())?;
     }
     Ok(())
 }
 
-fn types_text(alloc: Global, types: &Row<Named>, ids: &[Identifiers]) -> Result<Text, OutOfMemory>
-    requires { AreIdentified types.now ids.now }
-    ensures { IfOk result (λ text. text ≡ printed (idl_types.declared types.now) ++ concat (map spec.type_line (idl_types.declared types.now))) }
+#[tactic(auto, using(crate::proofs::OfListing::Lines::lines_are))]
+fn types_text(alloc: Global, types: &Declarations, ids: &[Identifiers]) -> Result<Text, OutOfMemory>
+    requires { AreIdentified (declared types.now) ids.now }
+    ensures { IfOk result (λ text. text ≡ printed (declared types.now) ++ concat (map spec.type_line (declared types.now))) }
 {
-    let mut text = print(alloc, types)?;
+    let mut text = print_declared(alloc, types)?;
     push_lines(alloc, types.as_slice(), ids, &mut text)?;
     Ok(text)
 }

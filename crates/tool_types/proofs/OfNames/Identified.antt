@@ -1,7 +1,7 @@
 -- What a word's identifier resolves to.
-use Rattle.std.proofs.Common.{◌≡◌, refl, ap, sym, ◌∙◌, subst, ℕ, zero, suc, List, [], ◌∷◌, Bool, true, false, Some, None, Result, Ok, Err, IsOk, if◌then◌else◌}
-use Rattle.std.specs.Prelude.{Option, slice_get, IfOk}
-use Rattle.std.specs.Option.{option_map, option_and_then}
+use Rattle.std.proofs.Common.{◌≡◌, refl, ap, subst, ℕ, zero, suc, List, [], ◌∷◌, Bool, true, false, Some, None, Result, Ok, Err, IsOk, if◌then◌else◌}
+use Rattle.std.specs.Prelude.{Option, IfOk}
+use Rattle.std.specs.Option.{option_map}
 use Rattle.std.specs.Str.{bytes_eq}
 use Rattle.type_trees.specs.declared.types.HashId.{HashId}
 use Rattle.type_trees.specs.Trees.{Tree}
@@ -14,29 +14,21 @@ use Rattle.object_walks.specs.Resolving.{resolved}
 use Rattle.type_object.specs.Pools.{Texts, found}
 use Rattle.type_resolve.specs.Objects.{identifier}
 use Rattle.idl_types.specs.State as idl_types
-use Rattle.tool_runs.specs.output.Outputs.{Refusal}
+use Rattle.type_resolve.specs.declared.sides.Identifiers.{Identifiers}
 use Rattle.tool_runs.specs.output.Runs.{Comes}
 use Rattle.tool_runs.specs.declared.output.stop.Stop.{Stop}
 use Rattle.tool_words.specs.Words.{Form, plain, within, by_id, Reference}
 use Rattle.tool_types.specs.Types.{Declared, types, object}
+use Rattle.tool_types.specs.Declaring.{Identifies}
 use Rattle.tool_types.specs.Coming.{ComeBack, ComesBack, AllComeBack}
 use Rattle.tool_types.specs.names.Names.{Meaning, typed, identified, type_by_name, has_name, in_record, or_else, in_records, in_record_at, meant, or_refused, type_meant, type_named}
-use Rattle.tool_types.specs.names.Identified.{by_hash, hash_meant, Resolves}
+use Rattle.tool_types.specs.names.Identified.{by_hash, hash_meant, IsBack, IsBackMeant, Resolves}
 use Rattle.tool_types.specs.names.Meanings.{IsFound}
 use Rattle.tool_types.specs.declared.names.named.NamedType.{NamedType}
-
--- a type's complete identifier resolves to it
-abbrev IsBack : Texts → Tree → Type 0
-IsBack pool t = (id : HashId) → identifier true t ≡ o.hash id → resolved pool id ≡ Ok t
 
 abbrev IsBackIn : Texts → Option Tree → Type 0
 IsBackIn pool None = Unit {0}
 IsBackIn pool (Some t) = IsBack pool t
-
-abbrev IsBackMeant : Texts → Option Meaning → Type 0
-IsBackMeant pool None = Unit {0}
-IsBackMeant pool (Some (typed t)) = IsBack pool t
-IsBackMeant pool (Some (identified id)) = Unit {0}
 
 chosen : (pool : Texts) (b : Bool) (x y : Option Tree) → IsBackIn pool x → IsBackIn pool y → IsBackIn pool (if b then x else y)
 chosen pool true x y p q = p
@@ -79,7 +71,7 @@ id_back : (pool : Texts) (id : HashId) (text : Option (List ℕ)) → IsBackMean
 id_back pool id None = tt
 id_back pool id (Some t) = tt
 
-meant_back : (f : Form) (front : List Declared × Texts) → AllComeBack front.1 front.0 → IsBackMeant front.1 (meant f front)
+pub meant_back : (f : Form) (front : List Declared × Texts) → AllComeBack front.1 front.0 → IsBackMeant front.1 (meant f front)
 meant_back (plain name) front all = records_back front.1 name front.0 all
 meant_back (within k name) front all = at_back front.1 name k front.0 all
 meant_back (by_id id) front all = id_back front.1 id (found id front.1)
@@ -119,6 +111,10 @@ has_type pool id t e = is_resolved (resolved pool id) t e
 -- the identifier of a type with objects of its own
 pub hash_is : (word : List ℕ) (t : Tree) (id : HashId) → identifier true t ≡ o.hash id → by_hash word (identifier true t) ≡ Ok id
 hash_is word t id e = ap (by_hash word) e
+
+-- a declared type's own identifier resolves to it
+pub declared_resolves : (pool : Texts) (t : Tree) (ids : Identifiers) → IsBack pool t → Identifies t ids → resolved pool ids.complete ≡ Ok t
+declared_resolves pool t ids back named = back ids.complete named.complete
 
 -- A type that is named is found with its identifier.
 pub found_by : (r : Reference) (front : List Declared × Texts) (result : Result NamedType Stop) → AllComeBack front.1 front.0 → Comes (type_named r front) (λ n. tree n.ty) result → IfOk result (λ n. IsValid n.ty) → IfOk result (λ n. hash_meant r.word (meant r.form front) ≡ Ok n.id) → IfOk result (IsFound front.1)

@@ -1,16 +1,13 @@
 -- What words name.
-use Rattle.std.proofs.Common.{◌≡◌, refl, sym, ap, subst, ◌∙◌, ℕ, zero, suc, ◌+◌, ◌<◌, List, [], ◌∷◌, map, drop, length, get_or, Some, None, Result, Ok, Err}
+use Rattle.std.proofs.Common.{◌≡◌, refl, subst, ℕ, zero, suc, List, [], ◌∷◌, map, Some, None, Result, Ok, Err}
 use Rattle.std.specs.Prelude.{Option, slice_get}
 use Rattle.std.specs.Option.{option_map}
-use Rattle.std.proofs.lemmas.List.{drop_more}
 use Rattle.xt_shapes.specs.declared.leaves.Step.{Step}
 use Rattle.type_trees.specs.declared.types.HashId.{HashId}
-use Rattle.type_trees.specs.declared.types.Named.{Named}
 use Rattle.type_trees.specs.Trees.{Tree}
 use Rattle.type_rules.specs.Valid.{type_fault}
 use Rattle.type_object.specs.Pools.{Texts}
 use Rattle.object_walks.specs.Resolving.{Stop, resolved, settled, checked, walked}
-use Rattle.tool_types.specs.Types as types
 use Rattle.tool_types.specs.declared.declaring.Declared.{Declared as Record}
 use Rattle.tool_types.specs.Declaring.{AllGood, IsGood, declared_view}
 

@@ -1,6 +1,7 @@
 -- The identifier that a word means (this profile's own).
-use Rattle.std.specs.Prelude.{ℕ, true, List, ◌++◌, Option, Some, None, Result, Ok, Err, IsOk, codes}
+use Rattle.std.specs.Prelude.{◌≡◌, ℕ, true, List, ◌++◌, Option, Some, None, Result, Ok, Err, IsOk, codes}
 use Rattle.type_trees.specs.declared.types.HashId.{HashId}
+use Rattle.type_trees.specs.Trees.{Tree}
 use Rattle.object_formats.specs.Objects as o
 use Rattle.object_formats.specs.Objects.{Identifier}
 use Rattle.object_walks.specs.Resolving.{resolved}
@@ -32,3 +33,13 @@ id_named r front = top_named r front >>= λ t. hash_meant r.word (meant r.form f
 -- the identifier has a type in the pool
 abbrev pub Resolves : Texts → HashId → Type 0
 Resolves pool id = IsOk (resolved pool id)
+
+-- a type's complete identifier resolves to it
+abbrev pub IsBack : Texts → Tree → Type 0
+IsBack pool t = (id : HashId) → identifier true t ≡ o.hash id → resolved pool id ≡ Ok t
+
+-- that of a type that is meant
+abbrev pub IsBackMeant : Texts → Option Meaning → Type 0
+IsBackMeant pool None = Unit {0}
+IsBackMeant pool (Some (typed t)) = IsBack pool t
+IsBackMeant pool (Some (identified id)) = Unit {0}

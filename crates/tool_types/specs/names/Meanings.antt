@@ -1,5 +1,5 @@
 -- What the program's meanings stand for (this profile's own).
-use Rattle.std.specs.Prelude.{◌≡◌, true, Ok}
+use Rattle.std.specs.Prelude.{◌≡◌, Ok}
 use Rattle.type_trees.specs.Trees.{Tree}
 use Rattle.type_trees.specs.View.{tree}
 use Rattle.projection_laws.specs.Premises.{IsValid}
@@ -8,7 +8,8 @@ use Rattle.object_walks.specs.declared.resolving.ResolveFault.TheVariants as fau
 use Rattle.object_walks.specs.Resolving as walks
 use Rattle.object_walks.specs.Resolving.{resolved}
 use Rattle.type_object.specs.Pools.{Texts}
-use Rattle.type_resolve.specs.Objects.{has_objects}
+use Rattle.idl_types.specs.Definitions.{declared}
+use Rattle.idl_types.specs.Uses.{tree_at}
 use Rattle.tool_runs.specs.declared.output.halt.Halt.TheVariants as halts
 use Rattle.tool_runs.specs.declared.output.stop.Stop.{Stop}
 use Rattle.tool_runs.specs.declared.output.stop.Stop.TheVariants as stops
@@ -20,22 +21,17 @@ use Rattle.tool_types.specs.declared.names.named.NamedType.{NamedType}
 use Rattle.tool_types.specs.declared.names.meanings.Meaning.TheVariants.{Typed, Identified}
 use Rattle.tool_types.specs.names.Names as spec
 
--- the type alone
+-- the type that stands at its place
 abbrev pub tree_of : DeclaredType → Tree
-tree_of found = tree found.named.now.ty
+tree_of found = tree_at (declared found.types.now) found.at
 
 abbrev pub meaning_view : Meaning → spec.Meaning
 meaning_view (Typed found) = spec.typed (tree_of found)
 meaning_view (Identified id) = spec.identified id
 
--- a declared type is valid, and has objects of its own, which have its identifiers
-pub record IsSoundType (found : DeclaredType) : Type 0 where
-  pub valid : IsValid found.named.now.ty
-  pub objects : has_objects (tree_of found) ≡ true
-  pub identified : Identifies (tree_of found) found.ids
-
+-- a declared type has its identifiers
 abbrev pub IsSound : Meaning → Type 0
-IsSound (Typed found) = IsSoundType found
+IsSound (Typed found) = Identifies (tree_of found) found.ids
 IsSound (Identified id) = Unit {0}
 
 -- A type that a word names is valid, and its identifier resolves to it.

@@ -1,22 +1,25 @@
-ghost use Rattle.std.specs.Prelude.{◌≡◌, IfSome, map, slice_get};
+ghost use Rattle.std.specs.Prelude.{◌≡◌, ◌<◌, IfSome, length, map, slice_get};
 ghost use Rattle.std.specs.Option.{option_map};
-ghost use Rattle.idl_types.specs.State as idl_types;
+ghost use Rattle.idl_types.specs.Definitions.{declared};
+ghost use Rattle.idl_types.specs.Uses.{tree_at};
 ghost use Rattle.tool_words.specs.View.{form_view};
-ghost use Rattle.tool_types.specs.Declaring.{AllGood, AreGood, AreIdentified, IsGood, declared_view};
+ghost use Rattle.tool_types.specs.Declaring.{AllGood, AreIdentified, IsGood, declared_view};
 ghost use Rattle.tool_types.specs.names.Names as spec;
-ghost use Rattle.tool_types.specs.names.Meanings.{IsSound, IsSoundType, meaning_view, tree_of};
+ghost use Rattle.tool_types.specs.names.Meanings.{IsSound, meaning_view};
 
 use crate::Declared;
 use tool_words::Form;
 use type_object::Pool;
 use type_resolve::Identifiers;
-use type_trees::{HashId, Named};
+use type_trees::HashId;
+use xt_idl::Declaration;
 use xt_lists::Text;
 
-/// A type that a text declares, and its identifiers.
+/// A type that a text declares: its place among the text's types, and its identifiers.
 #[derive(Clone, Copy)]
 pub struct DeclaredType<'a> {
-    pub named: &'a Named,
+    pub types: &'a [Declaration],
+    pub at: usize,
     pub ids: Identifiers,
 }
 
@@ -27,35 +30,30 @@ pub enum Meaning<'a> {
     Identified(HashId),
 }
 
-/// The first type of that name among the types of a text, which stand beside their identifiers.
-pub fn type_by_name<'a>(
-    name: &[u8],
-    types: &'a [Named],
-    ids: &[Identifiers],
-) -> Option<DeclaredType<'a>>
-    requires good { AreGood types.now }
-    requires identified { AreIdentified types.now ids.now }
-    ensures found { option_map tree_of result ≡ spec.type_by_name name.now (idl_types.declared types.now) }
-    ensures sound { IfSome result IsSoundType }
+// The place of the first type of that name among the types of a text.
+fn place_by_name(name: &[u8], types: &[Declaration]) -> Option<usize>
+    ensures found { option_map (tree_at (declared types.now)) result ≡ spec.type_by_name name.now (declared types.now) }
+    ensures within { IfSome result (λ at. at < length types.now) }
 {
-    for (at, named) in types.iter().enumerate() {
-        if named.name.octets() == name {
-            let ids = ids[at];
-            return Some(DeclaredType { named, ids });
+    for (at, declaration) in types.iter().enumerate() {
+        if declaration.name.octets() == name {
+            return Some(at);
         }
     }
     None
 }
 
-// The same as what is meant.
-fn in_text<'a>(name: &[u8], types: &'a [Named], ids: &[Identifiers]) -> Option<Meaning<'a>>
-    requires good { AreGood types.now }
-    requires identified { AreIdentified types.now ids.now }
-    ensures meaning { option_map meaning_view result ≡ option_map spec.typed (spec.type_by_name name.now (idl_types.declared types.now)) }
+// What a name means among the types of a text, which stand beside their identifiers.
+fn in_text<'a>(name: &[u8], types: &'a [Declaration], ids: &[Identifiers]) -> Option<Meaning<'a>>
+    requires { AreIdentified (declared types.now) ids.now }
+    ensures meaning { option_map meaning_view result ≡ option_map spec.typed (spec.type_by_name name.now (declared types.now)) }
     ensures sound { IfSome result IsSound }
 {
-    match type_by_name(name, types, ids) {
-        Some(found) => Some(Meaning::Typed(found)),
+    match place_by_name(name, types) {
+        Some(at) => {
+            let ids = ids[at];
+            Some(Meaning::Typed(DeclaredType { types, at, ids }))
+        }
         None => None,
     }
 }

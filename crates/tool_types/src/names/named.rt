@@ -1,5 +1,6 @@
 ghost use Rattle.std.specs.Prelude.{◌≡◌, IfOk, IfSome, Ok, OnOk, map, true};
 ghost use Rattle.std.specs.Option.{option_map};
+ghost use Rattle.object_walks.specs.Resolving.{resolved};
 ghost use Rattle.projection_laws.specs.Premises.{IsValid};
 ghost use Rattle.type_trees.specs.samples.Tops.{is_top};
 ghost use Rattle.type_trees.specs.View.{tree};
@@ -9,20 +10,19 @@ ghost use Rattle.tool_words.specs.View.{reference_view};
 ghost use Rattle.tool_types.specs.Declaring.{AllGood, declared_view};
 ghost use Rattle.tool_types.specs.Coming.{AllComeBack};
 ghost use Rattle.tool_types.specs.names.Names as spec;
-ghost use Rattle.tool_types.specs.names.Identified.{hash_meant, id_named as named_id, Resolves};
-ghost use Rattle.tool_types.specs.names.Meanings.{IsFound, IsSound, IsSoundType, meaning_view, tree_of};
+ghost use Rattle.tool_types.specs.names.Identified.{hash_meant, id_named as named_id, IsBackMeant, Resolves};
+ghost use Rattle.tool_types.specs.names.Meanings.{IsFound, IsSound, meaning_view, tree_of};
 
 use crate::Declared;
 use crate::names::meanings::{DeclaredType, Meaning, meant};
 use crate::names::refusals::{refuse_name, refuse_top, refuse_walk};
 use object_walks::resolve;
 use std::alloc::Global;
-use tool_runs::output::{Halt, Stop};
+use tool_runs::output::Stop;
 use tool_words::Reference;
 use type_object::Pool;
 use type_trees::samples::is_top;
 use type_trees::{HashId, XType};
-use type_values::copy_type;
 
 /// A type that a word names, and the identifier that resolves to it: that of the type's complete object, where a text declares it.
 #[derive(Drop)]
@@ -42,19 +42,14 @@ fn type_resolved(alloc: Global, id: HashId, pool: &Pool) -> Result<NamedType, St
     }
 }
 
-fn type_declared(alloc: Global, declared: &DeclaredType<'_>) -> Result<NamedType, Stop>
-    requires { IsValid declared.now.named.now.ty }
+// A declared type comes back by its complete identifier.
+fn type_declared(alloc: Global, declared: &DeclaredType<'_>, pool: &Pool) -> Result<NamedType, Stop>
+    requires { resolved pool.now declared.now.ids.complete ≡ Ok (tree_of declared.now) }
     ensures comes { Comes (spec.as_declared (tree_of declared.now)) (λ found. tree found.ty) result }
     ensures valid { IfOk result (λ found. IsValid found.ty) }
     ensures id { IfOk result (λ found. found.id ≡ declared.now.ids.complete) }
 {
-    match copy_type(alloc, &declared.named.ty) {
-        Ok(ty) => Ok(NamedType {
-            ty,
-            id: declared.ids.complete,
-        }),
-        Err(_) => Err(Stop::Halted(Halt::OutOfMemory)),
-    }
+    type_resolved(alloc, declared.ids.complete, pool)
 }
 
 fn type_meant(
@@ -63,14 +58,15 @@ fn type_meant(
     meaning: &Option<Meaning<'_>>,
     pool: &Pool,
 ) -> Result<NamedType, Stop>
-    requires { IfSome meaning.now IsSound }
+    requires sound { IfSome meaning.now IsSound }
+    requires back { IsBackMeant pool.now (option_map meaning_view meaning.now) }
     ensures comes { Comes (spec.type_meant word.now pool.now (option_map meaning_view meaning.now)) (λ found. tree found.ty) result }
     ensures valid { IfOk result (λ found. IsValid found.ty) }
     ensures id { IfOk result (λ found. hash_meant word.now (option_map meaning_view meaning.now) ≡ Ok found.id) }
 {
     match meaning {
         None => Err(refuse_name(alloc, word)),
-        Some(Meaning::Typed(declared)) => type_declared(alloc, declared),
+        Some(Meaning::Typed(declared)) => type_declared(alloc, declared, pool),
         Some(Meaning::Identified(id)) => type_resolved(alloc, *id, pool),
     }
 }

@@ -4,28 +4,27 @@ ghost use Rattle.type_trees.specs.View.{tree};
 ghost use Rattle.type_object.specs.Pools.{Texts};
 ghost use Rattle.object_walks.specs.Resolving.{resolved};
 ghost use Rattle.tool_types.specs.Coming.{ComeBack};
-ghost use Rattle.tool_types.specs.Declaring.{AreGood, AreIdentified};
-ghost use Rattle.tool_types.specs.names.Meanings.{IsSoundType, tree_of};
+ghost use Rattle.tool_types.specs.Declaring.{AreIdentified};
 ghost use Rattle.idl_types.specs.State as idl_types;
 ghost use Rattle.tool_verdicts.specs.Versions as spec;
-ghost use Rattle.tool_verdicts.specs.Reports.{IsVersion, Reports, lines_of, version_view};
+ghost use Rattle.tool_verdicts.specs.Reports.{IsVersion, Reports, lines_of, tree_of, version_view};
 
 use crate::judging::{Side, Terms, verdict_on};
 use crate::versions::changes::Change;
+use crate::versions::lookup::{VersionType, type_by_name};
 use crate::versions::reports::Report;
 use std::alloc::Global;
-use tool_types::names::{DeclaredType, type_by_name};
 use type_object::Pool;
 use type_resolve::Identifiers;
 use type_trees::samples::is_top;
 use type_trees::{Named, XType};
-use xt_lists::OutOfMemory;
+use xt_lists::{OutOfMemory, Row};
 
 /// A version of the types: the number of its record, and the types of its text beside their identifiers.
-#[derive(Clone, Copy)]
+#[derive(Drop)]
 pub struct Version<'a> {
     pub number: u32,
-    pub types: &'a [Named],
+    pub types: Row<Named>,
     pub ids: &'a [Identifiers],
 }
 
@@ -54,7 +53,7 @@ fn is_compared(ty: &XType) -> bool
     is_top(ty) && !is_nested(ty)
 }
 
-fn side_of<'a>(declared: &DeclaredType<'a>) -> Side<'a>
+fn side_of<'a>(declared: &VersionType<'a>) -> Side<'a>
     ensures id { result.id ≡ declared.now.ids.complete }
     ensures ty { result.ty.now ≡ declared.now.named.now.ty }
 {
@@ -70,8 +69,8 @@ fn both_ways(
     terms: &Terms,
     pool: &Pool,
     number: u32,
-    older: &DeclaredType<'_>,
-    newer: &DeclaredType<'_>,
+    older: &VersionType<'_>,
+    newer: &VersionType<'_>,
     report: &mut Report,
 ) -> Result<(), OutOfMemory>
     requires older { resolved pool.now older.now.ids.complete ≡ Ok (tree_of older.now) }
@@ -92,8 +91,8 @@ fn became(
     terms: &Terms,
     pool: &Pool,
     number: u32,
-    older: &DeclaredType<'_>,
-    newer: &Option<DeclaredType<'_>>,
+    older: &VersionType<'_>,
+    newer: &Option<VersionType<'_>>,
     report: &mut Report,
 ) -> Result<(), OutOfMemory>
     requires older { resolved pool.now older.now.ids.complete ≡ Ok (tree_of older.now) }
@@ -116,7 +115,7 @@ fn of_older(
     alloc: Global,
     terms: &Terms,
     pool: &Pool,
-    older: &DeclaredType<'_>,
+    older: &VersionType<'_>,
     newer: &Version<'_>,
     report: &mut Report,
 ) -> Result<(), OutOfMemory>
@@ -125,7 +124,7 @@ fn of_older(
     ensures { OnOk result (Reports report.old report.new (spec.of_older terms.now.policy terms.now.rep (version_view newer.now) (older.now.named.now.name, tree_of older.now))) }
 {
     if is_compared(&older.named.ty) {
-        let found = type_by_name(older.named.name.octets(), newer.types, newer.ids);
+        let found = type_by_name(older.named.name.octets(), newer.types.as_slice(), newer.ids);
         became(alloc, terms, pool, newer.number, older, &found, report)
     } else {
         Ok(())
@@ -143,16 +142,16 @@ fn of_each_older(
 ) -> Result<(), OutOfMemory>
     requires older { IsVersion pool.now older.now }
     requires newer { IsVersion pool.now newer.now }
-    ensures { OnOk result (Reports report.old report.new (spec.each (spec.of_older terms.now.policy terms.now.rep (version_view newer.now)) (idl_types.declared older.now.types.now))) }
+    ensures { OnOk result (Reports report.old report.new (spec.each (spec.of_older terms.now.policy terms.now.rep (version_view newer.now)) (idl_types.declared older.now.types))) }
 {
-    let (types, ids) = (older.types, older.ids);
+    let (types, ids) = (older.types.as_slice(), older.ids);
     for (at, named) in types.iter().enumerate() {
         let ids = ids[at];
         of_older(
             alloc,
             terms,
             pool,
-            &DeclaredType { named, ids },
+            &VersionType { named, ids },
             newer,
             report,
         )?;
@@ -167,14 +166,13 @@ fn of_newer(
     named: &Named,
     report: &mut Report,
 ) -> Result<(), OutOfMemory>
-    requires good { AreGood older.now.types.now }
-    requires identified { AreIdentified older.now.types.now older.now.ids.now }
-    ensures { OnOk result (Reports report.old report.new (spec.of_newer number (idl_types.declared older.now.types.now) (named.now.name, tree named.now.ty))) }
+    requires { AreIdentified (idl_types.declared older.now.types) older.now.ids.now }
+    ensures { OnOk result (Reports report.old report.new (spec.of_newer number (idl_types.declared older.now.types) (named.now.name, tree named.now.ty))) }
 {
     if !is_compared(&named.ty) {
         return Ok(());
     }
-    match type_by_name(named.name.octets(), older.types, older.ids) {
+    match type_by_name(named.name.octets(), older.types.as_slice(), older.ids) {
         Some(_) => Ok(()),
         None => report.push(alloc, number, named.name.octets(), &Change::New),
     }
@@ -187,11 +185,10 @@ fn of_each_newer(
     newer: &Version<'_>,
     report: &mut Report,
 ) -> Result<(), OutOfMemory>
-    requires good { AreGood older.now.types.now }
-    requires identified { AreIdentified older.now.types.now older.now.ids.now }
-    ensures { OnOk result (Reports report.old report.new (spec.each (spec.of_newer newer.now.number (idl_types.declared older.now.types.now)) (idl_types.declared newer.now.types.now))) }
+    requires { AreIdentified (idl_types.declared older.now.types) older.now.ids.now }
+    ensures { OnOk result (Reports report.old report.new (spec.each (spec.of_newer newer.now.number (idl_types.declared older.now.types)) (idl_types.declared newer.now.types))) }
 {
-    let types = newer.types;
+    let types = newer.types.as_slice();
     for named in types {
         of_newer(alloc, newer.number, older, named, report)?;
     }

@@ -6,7 +6,7 @@ use crate::versions::comparing::Version;
 use tool_runs::output::{Cause, Ending};
 
 /// The last version so far, and whether something breaks so far.
-#[derive(Clone, Copy)]
+#[derive(Drop)]
 pub struct Progress<'a> {
     pub older: Option<Version<'a>>,
     pub broke: bool,

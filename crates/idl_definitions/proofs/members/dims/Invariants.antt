@@ -1,4 +1,4 @@
-use Rattle.std.proofs.Common.{◌≡◌, ◌-◌, drop, map, fold, take, ◌+◌}
+use Rattle.std.proofs.Common.{◌≡◌, ◌-◌}
 use Rattle.idl_definitions.specs.Members.{dims, dims_from}
 use Rattle.idl_definitions.proofs.members.dims.Given as goal
 

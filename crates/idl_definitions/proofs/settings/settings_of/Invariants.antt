@@ -1,4 +1,4 @@
-use Rattle.std.proofs.Common.{◌≡◌, ◌-◌, drop, map, fold, take, ◌+◌}
+use Rattle.std.proofs.Common.{◌≡◌, drop}
 use Rattle.idl_definitions.specs.Notes.{settings, settings_from}
 use Rattle.idl_definitions.proofs.settings.settings_of.Given as goal
 

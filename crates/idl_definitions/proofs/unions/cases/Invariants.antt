@@ -6,4 +6,4 @@ use Rattle.idl_definitions.specs.Unions.{case}
 use Rattle.idl_definitions.proofs.unions.cases.Given as goal
 
 abbrev pub invariant-loop-turn : goal.invariant-loop-turn
-invariant-loop-turn l = to_brace (case (state l.reader) l.hashed (view.form l.form)) (view.gathered l.initial.gathered) l.initial.tokens ≡ braced_from (case (state l.reader) l.hashed (view.form l.form)) (l._turn-end - l._turn) (view.gathered l.gathered) l.tokens
+invariant-loop-turn l = to_brace (case (state l.reader) l.hashed (view.form l.form)) (view.gathered (state l.reader).types l.initial.gathered) l.initial.tokens ≡ braced_from (case (state l.reader) l.hashed (view.form l.form)) (l._turn-end - l._turn) (view.gathered (state l.reader).types l.gathered) l.tokens

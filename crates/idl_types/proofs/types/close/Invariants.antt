@@ -7,7 +7,7 @@ use Rattle.idl_types.proofs.types.close.Given as goal
 
 abbrev pub invariant-loop-last : goal.invariant-loop-last
 invariant-loop-last l =
-    (due : List Open → Input → Result (Unit {0} × Input) IdlFault) → closing due (reverse l.initial.open) l.initial.tokens ≡ closing due (reverse l.open) l.tokens
+    (due : List Open → Input → Result (Unit {0} × Input) IdlFault) → closing due (reverse l.initial.begun) l.initial.tokens ≡ closing due (reverse l.begun) l.tokens
 
 abbrev pub decreases-loop-last : goal.decreases-loop-last
-decreases-loop-last l = length l.open
+decreases-loop-last l = length l.begun

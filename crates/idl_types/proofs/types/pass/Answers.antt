@@ -1,5 +1,4 @@
-use Rattle.std.proofs.Common.{◌≡◌, ◌+◌, ◌-◌, ◌<◌, ◌∙◌, arith, rules}
-use Rattle.std.proofs.lemmas.Grind.{common_steps}
+use Rattle.std.proofs.Common.{◌+◌, ◌-◌, ◌∙◌}
 use Rattle.idl_types.specs.Views.{state}
 use Rattle.idl_types.specs.Types.{due}
 use Rattle.idl_types.proofs.TypeSteps.{due_go}

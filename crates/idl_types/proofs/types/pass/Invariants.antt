@@ -6,4 +6,4 @@ use Rattle.idl_types.proofs.types.pass.Given as goal
 
 abbrev pub invariant-loop-turn : goal.invariant-loop-turn
 invariant-loop-turn l =
-    due (state l.fn.reader) (turns_of l.fn.tokens) [] l.fn.tokens ≡ due (state l.fn.reader) (l._turn-end - l._turn) (reverse l.open) l.tokens
+    due (state l.fn.reader) (turns_of l.fn.tokens) [] l.fn.tokens ≡ due (state l.fn.reader) (l._turn-end - l._turn) (reverse l.begun) l.tokens

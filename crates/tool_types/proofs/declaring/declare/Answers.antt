@@ -1,7 +1,6 @@
-use Rattle.std.proofs.Common.{◌≡◌, ℕ, ◌+◌, List, [], ◌∷◌, ◌++◌, map, drop, drop_of_length-le, Result, Err, arith, sym, ap, ◌∙◌, subst}
+use Rattle.std.proofs.Common.{◌+◌, List, [], map, drop, drop_of_length-le, arith, sym, ap, ◌∙◌, subst}
 use Rattle.xt_io.specs.declared.Item.{Item}
 use Rattle.type_object.specs.Pools.{Texts}
-use Rattle.tool_runs.specs.output.Outputs.{Refusal}
 use Rattle.tool_types.specs.Types as spec
 use Rattle.tool_types.specs.declared.declaring.Declared.{Declared as Record}
 use Rattle.tool_types.specs.Declaring.{declared_view}

@@ -6,7 +6,7 @@ use Rattle.type_trees.proofs.types.Member.TheLaws as member_laws
 use Rattle.type_trees.proofs.Views.{tree_prim, tree_str, tree_enum, tree_mask, tree_struct, tree_union, tree_alias, sequence_tree_is, array_tree_is, map_tree_is, alias_tree_is, union_tree_is}
 use Rattle.type_trees.specs.declared.types.StructType.{out-StructType}
 use Rattle.type_trees.specs.View.{tree, members_tree}
-use Rattle.type_resolve.specs.Views.{seen, hashes_seen, member_sides, case_sides}
+use Rattle.type_resolve.specs.Views.{seen, hashes_seen, member_sides, case_sides, member_head, case_head}
 use Rattle.type_resolve.proofs.Added.{stores_err}
 use Rattle.type_resolve.proofs.Known.{held_after}
 use Rattle.type_resolve.proofs.Loops.{members_same, members_start, members_on, members_end, members_free, members_done, cases_start, cases_on, cases_end, cases_free, cases_done, none_behind}
@@ -106,7 +106,7 @@ members-returns-in_err-push t c =
 
 pub members-loop-member-preserved : goal.members-loop-member-preserved
 members-loop-member-preserved t c =
-    members_on c.args.pool.now c.loop-member.pool c.between-own.result.now c.loop-member.member-index c.member-item.result (omega (arith, c.loop-member-test.true)) c.member-item.is (member_sides c.loop-member.parts) c.loop-member.invariant c.member_type.new.pool (seen c.in_ok-ty.ty) (member_sides c.push.new.self)
+    members_on c.args.pool.now c.loop-member.pool c.between-own.result.now c.loop-member.member-index c.member-item.result (omega (arith, c.loop-member-test.true)) c.member-item.is (member_sides c.loop-member.parts) c.loop-member.invariant c.member_type.new.pool (seen c.in_ok-ty.ty) (member_head c.of_member.result) (member_sides c.push.new.self) c.of_member.ensures.head
     (rw c.number_of-number.ensures.same at c.in_ok-ty.ensures.0) c.in_ok-ty.ensures.1 c.in_ok-push.ensures.minimal c.in_ok-push.ensures.complete
 
 pub members-returns : goal.members-returns
@@ -130,7 +130,7 @@ cases-returns-in_err-push t c =
 
 pub cases-loop-case-preserved : goal.cases-loop-case-preserved
 cases-loop-case-preserved t c =
-    cases_on c.args.pool.now c.loop-case.pool c.args.cases.now c.loop-case.case-index c.case-item.result (omega (arith, c.loop-case-test.true)) c.case-item.is (case_sides c.loop-case.parts) c.loop-case.invariant c.identify.new.pool (seen c.in_ok-ty.ty) (case_sides c.push.new.self)
+    cases_on c.args.pool.now c.loop-case.pool c.args.cases.now c.loop-case.case-index c.case-item.result (omega (arith, c.loop-case-test.true)) c.case-item.is (case_sides c.loop-case.parts) c.loop-case.invariant c.identify.new.pool (seen c.in_ok-ty.ty) (case_head c.of_case.result) (case_sides c.push.new.self) c.of_case.ensures
     c.in_ok-ty.ensures.0 c.in_ok-ty.ensures.1 c.in_ok-push.ensures.minimal c.in_ok-push.ensures.complete
 
 pub cases-returns : goal.cases-returns

@@ -8,5 +8,5 @@ use Rattle.tool_verdicts.proofs.versions.comparing.of_each_newer.Given as goal
 -- What is reported of the types that are left completes what is reported of all.
 abbrev pub invariant-loop-named : goal.invariant-loop-named
 invariant-loop-named l = record {
-  goes : (last : Report) → Reports l.report last (each (of_newer l.newer.number (declared l.older.types.now)) (declared (drop l.named-index l.types))) → Reports l.initial.report last (each (of_newer l.newer.number (declared l.older.types.now)) (declared l.types));
+  goes : (last : Report) → Reports l.report last (each (of_newer l.newer.number (declared l.older.types)) (declared (drop l.named-index l.types))) → Reports l.initial.report last (each (of_newer l.newer.number (declared l.older.types)) (declared l.types));
 }

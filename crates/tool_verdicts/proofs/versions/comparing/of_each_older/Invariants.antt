@@ -10,7 +10,7 @@ use Rattle.tool_verdicts.proofs.versions.comparing.of_each_older.Given as goal
 -- What is reported of the types that are left completes what is reported of all.
 abbrev pub invariant-loop-at : goal.invariant-loop-at
 invariant-loop-at l = record {
-  identified : AreIdentified (drop l.at l.types) (drop l.at l.ids);
+  identified : AreIdentified (declared (drop l.at l.types)) (drop l.at l.ids);
   back : ComeBack l.pool (declared (drop l.at l.types));
   goes : (last : Report) → Reports l.report last (each (of_older l.terms.policy l.terms.rep (version_view l.newer)) (declared (drop l.at l.types))) → Reports l.initial.report last (each (of_older l.terms.policy l.terms.rep (version_view l.newer)) (declared l.types));
 }
