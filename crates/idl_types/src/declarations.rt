@@ -1,8 +1,4 @@
-ghost use Rattle.std.specs.Prelude.{◌≡◌, ℕ};
-ghost use Rattle.type_trees.specs.declared.types.Name.{Name as AnyName};
-
 use crate::uses::Used;
-use node_rules::{HasId, HasName};
 use type_trees::{EnumType, MaskType, Name};
 use xt_lists::{Row, Text};
 use xt_shapes::{Ext, Try};
@@ -66,36 +62,4 @@ pub enum Definition {
 pub struct Declaration {
     pub name: Text,
     pub definition: Definition,
-}
-
-impl HasName for UsedMember {
-    ghost name_of = { λ m. m.name };
-
-    fn name(&self) -> &Name {
-        &self.name
-    }
-}
-
-impl HasId for UsedMember {
-    ghost id_of = { λ m. m.id };
-
-    fn id(&self) -> u32 {
-        self.id
-    }
-}
-
-impl HasName for UsedCase {
-    ghost name_of = { λ c. c.name };
-
-    fn name(&self) -> &Name {
-        &self.name
-    }
-}
-
-impl HasId for UsedCase {
-    ghost id_of = { λ c. c.id };
-
-    fn id(&self) -> u32 {
-        self.id
-    }
 }

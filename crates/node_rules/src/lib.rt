@@ -16,7 +16,6 @@ mod weights;
 pub use keys::keyable;
 pub use kinds::{is_discriminator, is_map_key};
 pub use nodes::{dims_fit, failing_rule};
-pub use numbered::{HasId, HasName, hashes_apart, ids_fit, names_fit};
 pub use numbers::{has_literal, is_of_prim};
 pub use octets::{is_scoped, name_fits, scope_fits};
 pub use weights::is_light;

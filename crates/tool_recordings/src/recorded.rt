@@ -11,7 +11,6 @@ use tool_runs::output::{Halt, Payloads, Stop, Style, is_sample};
 use type_object::Pool;
 use type_trees::HashId;
 use xt_io::{Head, Kind, Sink, write_record};
-use xt_lists::Text;
 use xt_recorder::{StreamFault, write_stream};
 use xt_shapes::Rep;
 
@@ -81,10 +80,10 @@ impl Payloads for Recorded {
         _alloc: Global,
         _number: u32,
         _head: Head,
-        payload: Text,
+        payload: &[u8],
         sink: &mut K,
     ) -> Result<(), Stop> {
-        match write_sample(payload.octets(), sink) {
+        match write_sample(payload, sink) {
             Ok(()) => Ok(()),
             Err(halt) => Err(Stop::Halted(halt)),
         }

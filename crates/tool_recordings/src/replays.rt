@@ -1,8 +1,9 @@
-ghost use Rattle.std.specs.Prelude.{◌≡◌, [], ◌∷◌, Some, None, true, IfSome};
+ghost use Rattle.std.specs.Prelude.{◌≡◌, [], ◌∷◌, Some, None, true, IfSome, IfOk};
 ghost use Rattle.type_trees.specs.View.{tree};
 ghost use Rattle.type_trees.specs.Bridge.{type_shape};
 ghost use Rattle.xt_recorder.specs.Replaying.{reader_of, state_of};
 ghost use Rattle.xt_recorder.specs.Replays.{State, read_in};
+ghost use Rattle.xt_io.specs.Bundles.{item_of};
 ghost use Rattle.xt_io.specs.declared.Kind.TheVariants.{Sample};
 ghost use Rattle.tool_runs.specs.output.Outputs.{Output, after_pieces};
 ghost use Rattle.tool_runs.specs.output.Runs.{Steps, StopsWriting};
@@ -22,7 +23,7 @@ use tool_samples::{payload_line, plan_for};
 use tool_types::names::NamedType;
 use type_object::Pool;
 use xt_io::{Head, Item, Kind, Sink};
-use xt_lists::Text;
+use xt_lists::{OutOfMemory, Text};
 use xt_recorder::Replayer;
 use xt_shapes::Rep;
 
@@ -32,6 +33,17 @@ pub struct Replays {
     replayer: Replayer,
     plan: Option<Plan>,
     ghost planned: { PlansFor (reader_of replayer) plan },
+}
+
+// A record with a copy of its payload.
+fn item_with(alloc: Global, head: Head, payload: &[u8]) -> Result<Item, OutOfMemory>
+    ensures { IfOk result (λ item. item ≡ item_of head payload.now) }
+{
+    Ok(Item {
+        kind: head.kind,
+        at: head.at,
+        payload: Text::from_octets(alloc, payload)?,
+    })
 }
 
 impl Replays {
@@ -50,12 +62,12 @@ impl Replays {
         }
     }
 
-    // The representation of a record that is a sample to be read.
-    fn sample_rep(&self, item: &Item) -> Option<Rep>
-        ensures kind { IfSome result (λ rep. item.now.kind ≡ Sample) }
+    // The representation of a record of this kind, where it is a sample to be read.
+    fn sample_rep(&self, kind: Kind) -> Option<Rep>
+        ensures kind { IfSome result (λ rep. kind ≡ Sample) }
         ensures rep { IfSome result (λ rep. read_in (state_of self.now.replayer).stream ≡ Some rep) }
     {
-        match item.kind {
+        match kind {
             Kind::Sample => self.replayer.reads_in(),
             Kind::Object | Kind::Idl | Kind::Json | Kind::Note => None,
         }
@@ -84,17 +96,21 @@ impl Replays {
         &mut self,
         alloc: Global,
         number: u32,
-        item: &Item,
+        head: Head,
+        payload: &[u8],
         sink: &mut K,
     ) -> Result<(), Stop>
-        ensures steps { (more : State → Output) → Steps Style.Lines (Some (replayed_by (reader_of self.old.replayer) number item.now (state_of self.old.replayer) more)) (Some (more (state_of self.new.replayer))) result (K.taken sink.old) (K.taken sink.new) }
+        ensures steps { (more : State → Output) → Steps Style.Lines (Some (replayed_by (reader_of self.old.replayer) number (item_of head payload.now) (state_of self.old.replayer) more)) (Some (more (state_of self.new.replayer))) result (K.taken sink.old) (K.taken sink.new) }
         ensures reader { reader_of self.new.replayer ≡ reader_of self.old.replayer }
         ensures stops { StopsWriting (K.faults sink.old) (K.faults sink.new) result }
         ensures same { K.name sink.new ≡ K.name sink.old }
     {
-        match self.sample_rep(item) {
-            Some(rep) => self.say_sample(alloc, rep, item.payload.octets(), sink),
-            None => self.take_other(alloc, number, item, sink),
+        match self.sample_rep(head.kind) {
+            Some(rep) => self.say_sample(alloc, rep, payload, sink),
+            None => match item_with(alloc, head, payload) {
+                Ok(item) => self.take_other(alloc, number, &item, sink),
+                Err(_) => Err(Stop::Halted(Halt::OutOfMemory)),
+            },
         }
     }
 
@@ -142,15 +158,10 @@ impl Payloads for Replays {
         alloc: Global,
         number: u32,
         head: Head,
-        payload: Text,
+        payload: &[u8],
         sink: &mut K,
     ) -> Result<(), Stop> {
-        let item = Item {
-            kind: head.kind,
-            at: head.at,
-            payload,
-        };
-        self.replay(alloc, number, &item, sink)
+        self.replay(alloc, number, head, payload, sink)
     }
 
     ghost at_fault = { λ s k fault. run_at_fault Lines (replay_turn (reader_of s.replayer)) (λ state. finished) (state_of s.replayer) k fault };

@@ -16,4 +16,6 @@ pub use payloads::Payloads;
 pub use saying::{last, line, record, refuse_bundle, refuse_fault, say};
 pub use status::{Status, status_of};
 pub use stop::{Refused, Stop};
-pub use turns::{Next, Turns, is_sample, next_of, pass_other, payload_of, run_body, stop_for};
+pub use turns::{
+    Next, Turns, is_sample, next_of, pass_other, payload_into, payload_of, run_body, stop_for,
+};

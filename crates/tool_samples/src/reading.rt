@@ -11,6 +11,7 @@ use std::alloc::Global;
 use tool_runs::output::{Block, Stop, Turns, is_sample};
 use type_trees::XType;
 use xt_io::{BundleReader, Head, Kind, Source};
+use xt_lists::Text;
 use xt_shapes::Rep;
 
 /// A piece for each sample, by its representation and the reader's type, in the form that is asked.
@@ -79,10 +80,11 @@ impl<F: Shows + Drop> Turns for Samples<F> {
         _number: u32,
         head: Head,
         reader: BundleReader<S>,
+        gathered: &mut Text,
         block: &mut Block,
     ) -> (BundleReader<S>, Result<(), Stop>) {
         let (back, shown) = sample_piece(
-            alloc, &self.form, self.rep, &self.ty, &self.plan, head, reader,
+            alloc, &self.form, self.rep, &self.ty, &self.plan, head, reader, gathered,
         );
         match shown {
             Err(stop) => (back, Err(stop)),

@@ -13,7 +13,7 @@ use crate::payloads::payload_piece;
 use packed_json::Plan;
 use settled_parts::Outcome;
 use std::alloc::Global;
-use tool_runs::output::{Halt, Stop, payload_of, stop_for};
+use tool_runs::output::{Halt, Stop, payload_into, stop_for};
 use type_trees::XType;
 use xt_io::{BundleReader, Head, Source};
 use xt_lists::Text;
@@ -71,7 +71,7 @@ fn streamed_piece<F: Shows, S: Source>(
     }
 }
 
-// What is written of a sample that stands in memory.
+// What is written of a sample whose octets are gathered.
 fn held_piece<F: Shows, S: Source>(
     alloc: Global,
     form: &F,
@@ -80,6 +80,7 @@ fn held_piece<F: Shows, S: Source>(
     plan: &Option<Plan>,
     head: Head,
     reader: BundleReader<S>,
+    gathered: &mut Text,
 ) -> (BundleReader<S>, Result<Text, Stop>)
     requires ready { IsReady head reader }
     requires valid { IsValid ty.now }
@@ -90,9 +91,9 @@ fn held_piece<F: Shows, S: Source>(
     ensures same { result.0.name ≡ reader.name }
 {
     let mut reader = reader;
-    match payload_of(alloc, head, &mut reader) {
+    match payload_into(alloc, head, &mut reader, gathered) {
         Err(stop) => (reader, Err(stop)),
-        Ok(payload) => match payload_piece(alloc, form, rep, ty, plan, payload.octets()) {
+        Ok(()) => match payload_piece(alloc, form, rep, ty, plan, gathered.octets()) {
             Ok(piece) => (reader, Ok(piece)),
             Err(_) => (reader, Err(Stop::Halted(Halt::OutOfMemory))),
         },
@@ -100,8 +101,8 @@ fn held_piece<F: Shows, S: Source>(
 }
 
 /// What is written of the sample whose head the reader just gave, by its representation and the reader's type alone. With a plan the
-/// sample's octets are gathered, at most 1,048,576; else it is read as they come. A sample that is cut has no piece. The reader is given
-/// back.
+/// sample's octets are gathered in the text, at most 1,048,576; else it is read as they come. A sample that is cut has no piece. The reader is
+/// given back.
 pub fn sample_piece<F: Shows, S: Source>(
     alloc: Global,
     form: &F,
@@ -110,6 +111,7 @@ pub fn sample_piece<F: Shows, S: Source>(
     plan: &Option<Plan>,
     head: Head,
     reader: BundleReader<S>,
+    gathered: &mut Text,
 ) -> (BundleReader<S>, Result<Text, Stop>)
     requires ready { IsReady head reader }
     requires valid { IsValid ty.now }
@@ -121,6 +123,6 @@ pub fn sample_piece<F: Shows, S: Source>(
 {
     match plan {
         None => streamed_piece(alloc, form, rep, ty, head, reader),
-        Some(_) => held_piece(alloc, form, rep, ty, plan, head, reader),
+        Some(_) => held_piece(alloc, form, rep, ty, plan, head, reader, gathered),
     }
 }

@@ -9,4 +9,4 @@ mod validity;
 
 pub use depths::first_deep;
 pub use laws::{is_within_limits, shape_keeps_rules};
-pub use validity::{TypeFault, check_nodes, check_type, fault_beneath, fault_here, is_small};
+pub use validity::{TypeFault, check_nodes, check_type, fault_here};

@@ -29,8 +29,8 @@ pub fn fault_here(rule: u8) -> TypeFault
     }
 }
 
-/// The fault of a type one step below.
-pub fn fault_beneath(step: Step, fault: TypeFault) -> TypeFault
+// The fault of a type one step below.
+fn fault_beneath(step: Step, fault: TypeFault) -> TypeFault
     requires { length fault.node < 16 }
     ensures rule { result.rule ≡ fault.rule }
     ensures node { result.node ≡ step ∷ fault.node }
@@ -125,9 +125,9 @@ pub fn check_nodes(ty: &XType) -> Option<TypeFault>
     }
 }
 
-/// Whether there are at most 65,536 nodes, and the weight isn't greater.
+// Whether there are at most 65,536 nodes, and the weight isn't greater.
 #[tactic(auto, using(node_rules::proofs::Limits::within_test))]
-pub fn is_small(ty: &XType) -> bool
+fn is_small(ty: &XType) -> bool
     ensures { result ≡ spec.is_small (tree ty.now) }
 {
     capped_nodes(ty) <= 65_536 && capped_weight(ty) <= 65_536

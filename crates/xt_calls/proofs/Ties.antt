@@ -1,7 +1,6 @@
 -- The calls' answers are what the commands write, and the headline of the calls.
 use Rattle.std.proofs.Common.{◌≡◌, refl, sym, ap, ◌∙◌, ℕ, Bool, true, false, if◌then◌else◌, nat_lt, List, [], inr, None, Some, Result, Ok, Err}
 use Rattle.xt_io.specs.declared.Item.{Item}
-use Rattle.xt_shapes.specs.declared.leaves.Rep.{Rep}
 use Rattle.xt_shapes.specs.Vals.{Val}
 use Rattle.type_trees.specs.Trees.{Tree}
 use Rattle.type_trees.specs.Bridge.{shape}
@@ -15,7 +14,6 @@ use Rattle.xcdr_model.specs.SampleSpelling.{sample_size}
 use Rattle.shape_laws.specs.Verdicts.{Judged}
 use Rattle.shape_laws.specs.Soundness.{CrossSample}
 use Rattle.shape_laws.specs.Readings.{SampleTyped}
-use Rattle.json_values.specs.declared.faults.ValueFault.{ValueFault}
 use Rattle.json_values.specs.declared.faults.ValueFault.TheVariants.{NotJson, Wrong, OutOfMemory}
 use Rattle.json_values.specs.Read.{read_as}
 use Rattle.json_values.specs.Written.{json_text}
@@ -28,7 +26,7 @@ use Rattle.dynamic_data.specs.Laws.{JsonIsRead}
 use Rattle.dynamic_data.specs.numbers.Laws.{NumbersComeBack}
 use Rattle.xt_calls.specs.declared.answers.Answer.{Answer}
 use Rattle.xt_calls.specs.declared.words.Floats.{Floats}
-use Rattle.xt_calls.specs.Calls.{read_answer, written_answer, records_of, said, Shows, meaning}
+use Rattle.xt_calls.specs.Calls.{read_answer, records_of, said, Shows, meaning}
 use Rattle.xt_calls.specs.Laws.{line_of, record_of, turn_of, LinesAreRead, ConversionsAreRecords, WritesAreRecords, ValuesComeBack, CommandsAgree, Headline}
 
 -- ---- lines and records

@@ -51,6 +51,15 @@ takes_chunk k a b c text into rest new p q full e =
     let both = takes_more (length text) (length into) a b c text (take k into) p q in
     (subst (λ (n : ℕ). TakesUpTo n a c new) (sym len) (subst (λ (l : List ℕ). TakesUpTo (length text + length into) a c l) (sym joined) both), len)
 
+-- a chunk of which only a part was filled, behind what was read
+pub takes_part : (m k : ℕ) (a b c : Option (List ℕ)) (text into rest new : List ℕ) → TakesUpTo (length text) a b text → TakesUpTo (length into) b c (take k into) → k < length into → length text + length into ≤ m → new ≡ text ++ take k (into ++ rest)
+    → TakesUpTo m a c new
+takes_part m k a b c text into rest new p q short fits e =
+    let joined : new ≡ text ++ take k into = e ∙ ap (λ l. text ++ l) (take-append-le k into rest (omega arith)) in
+    let len : length (text ++ take k into) < length text + length into = omega (arith, length-append text (take k into), length-take k into) in
+    let both = takes_more (length text) (length into) a b c text (take k into) p q in
+    subst (λ (l : List ℕ). TakesUpTo m a c l) (sym joined) (takes_short (length text + length into) m a c (text ++ take k into) both len fits)
+
 pub told-same : {T : Type 0} (a : Option T) → KeepsTold a a
 told-same None = tt
 told-same (Some x) = refl

@@ -67,19 +67,22 @@ fn pass_pending<S: Source>(source: &mut S, pending: Option<Pending>) -> Result<(
 
 // Reads what is left of a payload, if one is being read.
 fn read_pending<S: Source>(
-    alloc: Global,
     source: &mut S,
     pending: Option<Pending>,
-) -> Result<Text, RecordFault>
-    ensures octets { IfOk result (λ t. TakesUpTo (rest_of pending) (S.left source.old) (S.left source.new) t) }
-    ensures whole { IfOk result (λ t. length t ≡ rest_of pending) }
+    payload: &mut Text,
+) -> Result<(), RecordFault>
+    ensures octets { IfOk result (λ _. TakesUpTo (rest_of pending) (S.left source.old) (S.left source.new) payload.new) }
+    ensures whole { IfOk result (λ _. length payload.new ≡ rest_of pending) }
     ensures cut { IfErr result (CutsPayload pending (S.left source.old)) }
     ensures cause { HasReadCause (S.faults source.old) (S.faults source.new) result }
     ensures same { S.name source.new ≡ S.name source.old }
 {
     match pending {
-        Some(Pending { head, rest }) => read_payload(alloc, source, head, rest),
-        None => Ok(Text::new(alloc)),
+        Some(Pending { head, rest }) => read_payload(source, head, rest, payload),
+        None => {
+            payload.clear();
+            Ok(())
+        }
     }
 }
 
@@ -196,13 +199,32 @@ impl<S: Source> BundleReader<S> {
         ensures follow { self.new.may_follow ≡ self.old.may_follow }
         ensures answers { Answers self.old self.new result }
     {
+        let mut payload = Text::new(alloc);
+        match self.payload_into(&mut payload) {
+            Ok(()) => Ok(payload),
+            Err(fault) => Err(fault),
+        }
+    }
+
+    /// The same, in place of what the text held, whose memory is used again: so one text serves for many payloads. What it holds after a
+    /// fault says nothing.
+    pub fn payload_into(&mut self, payload: &mut Text) -> Result<(), RecordFault>
+        ensures octets { IfOk result (λ _. IsTold (inside self.old) payload.new) }
+        ensures whole { IfOk result (λ _. length payload.new ≡ rest_of self.old.pending) }
+        ensures ahead { IfOk result (λ _. KeepsTold self.old.ahead self.new.ahead) }
+        ensures pending { self.old.fault ≡ None → self.new.pending ≡ None }
+        ensures ends { IfErr result (λ fault. Ends fault self.old.ahead) }
+        ensures cut { self.old.fault ≡ None → IfErr result (CutsPayload self.old.pending self.old.left) }
+        ensures follow { self.new.may_follow ≡ self.old.may_follow }
+        ensures answers { Answers self.old self.new result }
+    {
         if let Some(fault) = self.fault {
             return Err(fault);
         }
         let pending = self.pending;
         self.pending = None;
-        match read_pending(alloc, &mut self.source, pending) {
-            Ok(payload) => Ok(payload),
+        match read_pending(&mut self.source, pending, payload) {
+            Ok(()) => Ok(()),
             Err(fault) => {
                 self.fault = Some(fault);
                 Err(fault)

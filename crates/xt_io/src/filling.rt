@@ -1,5 +1,5 @@
 //! Reading a number of octets, in as many calls as the source wants.
-ghost use Rattle.std.specs.Prelude.{◌≡◌, ◌≤◌, ◌<◌, length, take, IfOk, IfErr, IsErrOf};
+ghost use Rattle.std.specs.Prelude.{◌≡◌, ◌≤◌, ◌<◌, [], length, take, IfOk, IfErr, IsErrOf};
 ghost use Rattle.std.specs.Io.KnownBytes.{IsAtEnd};
 ghost use Rattle.xt_outside.specs.declared.records.RecordFault.TheVariants.{OutOfMemory};
 ghost use Rattle.xt_outside.specs.Outside.{HasCause, HasReadCause, KeepsTold, TakesUpTo, Passes, PassesUpTo};
@@ -34,18 +34,50 @@ pub fn fill<S: Source>(source: &mut S, into: &mut [u8]) -> Result<usize, Failed>
 }
 
 // The same of few octets, for which a small block is cleared.
-fn read_few<S: Source>(alloc: Global, source: &mut S, most: usize) -> Result<Text, RecordFault>
-    requires { most ≤ 512 }
-    ensures octets { IfOk result (λ t. TakesUpTo most (S.left source.old) (S.left source.new) t) }
-    ensures within { IfOk result (λ t. length t ≤ most) }
-    ensures end { IfOk result (λ t. length t < most → IsAtEnd (S.left source.new)) }
+fn read_few<S: Source>(source: &mut S, most: usize, text: &mut Text) -> Result<(), RecordFault>
+    requires few { most ≤ 512 }
+    requires empty { text.old ≡ [] }
+    ensures octets { IfOk result (λ _. TakesUpTo most (S.left source.old) (S.left source.new) text.new) }
+    ensures within { IfOk result (λ _. length text.new ≤ most) }
+    ensures end { IfOk result (λ _. length text.new < most → IsAtEnd (S.left source.new)) }
     ensures fault { IfErr result IsOutside }
     ensures cause { HasReadCause (S.faults source.old) (S.faults source.new) result }
     ensures same { S.name source.new ≡ S.name source.old }
 {
     let mut few = [0u8; FEW];
     let count = fill(source, &mut few[..most])?;
-    Ok(Text::from_octets(alloc, &few[..count])?)
+    text.append(&few[..count])?;
+    Ok(())
+}
+
+/// Reads this many octets, or as many as there are left, in place of those that the text held. Its memory is used again, and more is taken
+/// only for octets that came. What it holds after a fault says nothing.
+pub(crate) fn read_into<S: Source>(
+    source: &mut S,
+    most: usize,
+    text: &mut Text,
+) -> Result<(), RecordFault>
+    ensures octets { IfOk result (λ _. TakesUpTo most (S.left source.old) (S.left source.new) text.new) }
+    ensures within { IfOk result (λ _. length text.new ≤ most) }
+    ensures end { IfOk result (λ _. length text.new < most → IsAtEnd (S.left source.new)) }
+    ensures fault { IfErr result IsOutside }
+    ensures cause { HasReadCause (S.faults source.old) (S.faults source.new) result }
+    ensures same { S.name source.new ≡ S.name source.old }
+{
+    text.clear();
+    if most <= FEW {
+        return read_few(source, most, text);
+    }
+    let mut chunk = [0u8; CHUNK];
+    'chunks: while text.len() < most {
+        let want = (most - text.len()).min(CHUNK);
+        let count = fill(source, &mut chunk[..want])?;
+        text.append(&chunk[..count])?;
+        if count < want {
+            return Ok(());
+        }
+    }
+    Ok(())
 }
 
 /// Reads this many octets, or as many as there are left. Memory is taken only for octets that came.
@@ -57,19 +89,8 @@ pub fn read_text<S: Source>(alloc: Global, source: &mut S, most: usize) -> Resul
     ensures cause { HasReadCause (S.faults source.old) (S.faults source.new) result }
     ensures same { S.name source.new ≡ S.name source.old }
 {
-    if most <= FEW {
-        return read_few(alloc, source, most);
-    }
     let mut text = Text::new(alloc);
-    let mut chunk = [0u8; CHUNK];
-    'chunks: while text.len() < most {
-        let want = (most - text.len()).min(CHUNK);
-        let count = fill(source, &mut chunk[..want])?;
-        text.append(&chunk[..count])?;
-        if count < want {
-            return Ok(text);
-        }
-    }
+    read_into(source, most, &mut text)?;
     Ok(text)
 }
 
@@ -118,25 +139,25 @@ pub(crate) fn pass_payload<S: Source>(
     Ok(())
 }
 
-/// Reads the rest of a payload, of which this many octets are left.
+/// Reads the rest of a payload, of which this many octets are left, in place of what the text held.
 pub(crate) fn read_payload<S: Source>(
-    alloc: Global,
     source: &mut S,
     head: Head,
     rest: u32,
-) -> Result<Text, RecordFault>
-    ensures octets { IfOk result (λ t. TakesUpTo rest (S.left source.old) (S.left source.new) t) }
-    ensures whole { IfOk result (λ t. length t ≡ rest) }
+    payload: &mut Text,
+) -> Result<(), RecordFault>
+    ensures octets { IfOk result (λ _. TakesUpTo rest (S.left source.old) (S.left source.new) payload.new) }
+    ensures whole { IfOk result (λ _. length payload.new ≡ rest) }
     ensures cut { IfErr result (IsCut head rest (S.left source.old)) }
     ensures cause { HasReadCause (S.faults source.old) (S.faults source.new) result }
     ensures same { S.name source.new ≡ S.name source.old }
 {
-    let payload = read_text(alloc, source, rest as usize)?;
+    read_into(source, rest as usize, payload)?;
     if payload.len() < rest as usize {
         return Err(RecordFault::Truncated {
             at: head.at,
             kind: head.kind,
         });
     }
-    Ok(payload)
+    Ok(())
 }

@@ -125,4 +125,11 @@ impl Text {
         self.octets.extend_from_slice(octets)?;
         Ok(())
     }
+
+    /// Takes all octets out. Their memory stays, for those that come in their place.
+    pub fn clear(&mut self)
+        ensures { self.new ≡ [] }
+    {
+        self.octets.clear();
+    }
 }

@@ -2,7 +2,7 @@ ghost use Rattle.std.specs.Prelude.{◌≡◌, ◌≤◌, ◌+◌, Some, length}
 
 use crate::output::block::Block;
 use crate::output::stop::Stop;
-use crate::output::turns::{Turns, payload_of};
+use crate::output::turns::{Turns, payload_into};
 use std::alloc::Global;
 use xt_io::{BundleReader, Head, Kind, Sink, Source};
 use xt_lists::Text;
@@ -37,12 +37,12 @@ pub trait Payloads {
         alloc: Global,
         number: u32,
         head: Head,
-        payload: Text,
+        payload: &[u8],
         sink: &mut K,
     ) -> Result<(), Stop>
         requires taken { kinds head.kind ≡ true }
-        requires size { length payload ≤ limit_of head.kind }
-        ensures steps { (more : Bundle) → Steps style (Some (to_write self.old number (before_bundle (item_of head payload) more))) (Some (to_write self.new (number + 1) more)) result (K.taken sink.old) (K.taken sink.new) }
+        requires size { length payload.now ≤ limit_of head.kind }
+        ensures steps { (more : Bundle) → Steps style (Some (to_write self.old number (before_bundle (item_of head payload.now) more))) (Some (to_write self.new (number + 1) more)) result (K.taken sink.old) (K.taken sink.new) }
         ensures stops { StopsWriting (K.faults sink.old) (K.faults sink.new) result }
         ensures same { K.name sink.new ≡ K.name sink.old };
 
@@ -70,13 +70,14 @@ impl<T: Payloads> Turns for T {
         number: u32,
         head: Head,
         reader: BundleReader<S>,
+        gathered: &mut Text,
         block: &mut Block,
     ) -> (BundleReader<S>, Result<(), Stop>) {
         let mut reader = reader;
-        match payload_of(alloc, head, &mut reader) {
+        match payload_into(alloc, head, &mut reader, gathered) {
             Err(stop) => (reader, Err(stop)),
-            Ok(payload) => {
-                let taken = self.take(alloc, number, head, payload, block);
+            Ok(()) => {
+                let taken = self.take(alloc, number, head, gathered.octets(), block);
                 (reader, taken)
             }
         }

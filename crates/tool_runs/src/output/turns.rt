@@ -57,7 +57,29 @@ pub fn stop_for(alloc: Global, fault: RecordFault) -> Stop
     }
 }
 
-/// The payload of the record whose head the reader just gave.
+/// Reads the payload of the record whose head the reader just gave, in place of what the text held, whose memory is used again. What it holds
+/// after a stop says nothing.
+pub fn payload_into<S: Source>(
+    alloc: Global,
+    head: Head,
+    reader: &mut BundleReader<S>,
+    payload: &mut Text,
+) -> Result<(), Stop>
+    requires { IsReady head reader.old }
+    ensures takes { TakesPayload head (λ u octets. octets ≡ payload.new) (coming (Record head) reader.old) reader.new.ahead result }
+    ensures size { IfOk result (λ _. length payload.new ≤ limit_of head.kind) }
+    ensures on { OnOk result (GoesOn reader.old reader.new) }
+    ensures cause { IfErr result StopsBundle }
+    ensures stops { StopsReading reader.old.faults reader.new.faults result }
+    ensures same { reader.new.name ≡ reader.old.name }
+{
+    match reader.payload_into(payload) {
+        Ok(()) => Ok(()),
+        Err(fault) => Err(stop_for(alloc, fault)),
+    }
+}
+
+/// The same, in a text of its own.
 pub fn payload_of<S: Source>(
     alloc: Global,
     head: Head,
@@ -71,9 +93,10 @@ pub fn payload_of<S: Source>(
     ensures stops { StopsReading reader.old.faults reader.new.faults result }
     ensures same { reader.new.name ≡ reader.old.name }
 {
-    match reader.payload(alloc) {
-        Ok(payload) => Ok(payload),
-        Err(fault) => Err(stop_for(alloc, fault)),
+    let mut payload = Text::new(alloc);
+    match payload_into(alloc, head, reader, &mut payload) {
+        Ok(()) => Ok(payload),
+        Err(stop) => Err(stop),
     }
 }
 
@@ -170,13 +193,14 @@ pub trait Turns {
         ensures { result ≡ kinds kind };
 
     /// Takes the record of this number, whose head the reader just gave, and gives the reader back. What it comes to goes into the block. A
-    /// refusal is not written yet.
+    /// refusal is not written yet. A payload may be gathered in the text, whose memory is used again for each record; what it holds says nothing.
     fn turn<S: Source>(
         &mut self,
         alloc: Global,
         number: u32,
         head: Head,
         reader: BundleReader<S>,
+        gathered: &mut Text,
         block: &mut Block,
     ) -> (BundleReader<S>, Result<(), Stop>)
         requires ready { IsReady head reader }
@@ -200,6 +224,7 @@ fn one_turn<T: Turns, S: Source>(
     number: u32,
     head: Head,
     reader: BundleReader<S>,
+    gathered: &mut Text,
     block: &mut Block,
 ) -> (BundleReader<S>, Result<(), Stop>)
     requires { IsReady head reader }
@@ -209,7 +234,7 @@ fn one_turn<T: Turns, S: Source>(
     ensures same { result.0.name ≡ reader.name }
 {
     if T::takes(head.kind) {
-        turns.turn(alloc, number, head, reader, block)
+        turns.turn(alloc, number, head, reader, gathered, block)
     } else {
         pass_other(alloc, head, reader)
     }
@@ -232,6 +257,7 @@ fn gather_turn<T: Turns, S: Source>(
     number: u32,
     head: Head,
     reader: BundleReader<S>,
+    gathered: &mut Text,
     block: &mut Block,
 ) -> (BundleReader<S>, Result<(), Stop>)
     requires { IsReady head reader }
@@ -240,7 +266,7 @@ fn gather_turn<T: Turns, S: Source>(
     ensures stops { StopsReading reader.faults result.0.faults result.1 }
     ensures same { result.0.name ≡ reader.name }
 {
-    let (back, turned) = one_turn(alloc, turns, number, head, reader, block);
+    let (back, turned) = one_turn(alloc, turns, number, head, reader, gathered, block);
     match turned {
         Ok(()) => (back, Ok(())),
         Err(Stop::Refused(refused)) => (back, Err(Stop::Refused(refused))),
@@ -275,7 +301,8 @@ fn next_gathered<S: Source, K: Sink>(
 /// written yet, and nothing that is written at the end.
 ///
 /// What the turns write goes to the sink in blocks: once 65,536 octets have come together, before input is read that isn't at hand, and at the
-/// end. The memory of a block is asked for once, and grows to that of the longest text of a record.
+/// end. The memory of a block is asked for once, and grows to that of the longest text of a record; that of payloads that are gathered is asked for
+/// with the first, and grows to that of the longest.
 pub fn run_body<T: Turns, S: Source, K: Sink>(
     alloc: Global,
     turns: &mut T,
@@ -296,7 +323,17 @@ pub fn run_body<T: Turns, S: Source, K: Sink>(
         return (reader, Err(Stop::Halted(Halt::OutOfMemory)));
     };
     let mut block = empty;
-    let (back, ran) = gather_body(alloc, turns, number, begun, reader, &mut block, sink);
+    let mut gathered = Text::new(alloc);
+    let (back, ran) = gather_body(
+        alloc,
+        turns,
+        number,
+        begun,
+        reader,
+        &mut gathered,
+        &mut block,
+        sink,
+    );
     (back, finish(block, ran, sink))
 }
 
@@ -307,6 +344,7 @@ fn gather_body<T: Turns, S: Source, K: Sink>(
     number: u32,
     begun: Next,
     reader: BundleReader<S>,
+    gathered: &mut Text,
     block: &mut Block,
     sink: &mut K,
 ) -> (BundleReader<S>, Result<u32, Stop>)
@@ -329,7 +367,7 @@ fn gather_body<T: Turns, S: Source, K: Sink>(
             Next::End => return (reader, Ok(at)),
             Next::Broken(fault) => return (reader, Err(refuse_fault(alloc, fault))),
         };
-        let (back, turned) = gather_turn(alloc, turns, at, head, reader, block);
+        let (back, turned) = gather_turn(alloc, turns, at, head, reader, gathered, block);
         reader = back;
         if let Err(stop) = turned {
             return (reader, Err(stop));

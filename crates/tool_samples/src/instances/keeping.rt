@@ -15,7 +15,7 @@ use std::alloc::Global;
 use tool_runs::output::{Payloads, Stop, Style, is_sample};
 use type_trees::XType;
 use xt_io::{Head, Kind, Sink};
-use xt_lists::{OutOfMemory, Text};
+use xt_lists::OutOfMemory;
 use xt_shapes::Rep;
 
 impl LastSamples {
@@ -73,7 +73,7 @@ impl Payloads for LastSamples {
         alloc: Global,
         _number: u32,
         _head: Head,
-        payload: Text,
+        payload: &[u8],
         _sink: &mut K,
     ) -> Result<(), Stop> {
         let is_planned = self.plan.is_some();

@@ -55,6 +55,24 @@ fn put_held(alloc: Global, key: Text, held: Held, cache: &mut LastValues<Held>) 
     }
 }
 
+// The octets of a plain sample, under its key: memory is asked for just as many.
+fn put_octets(
+    alloc: Global,
+    key: Text,
+    payload: &[u8],
+    cache: &mut LastValues<Held>,
+) -> Result<(), Stop>
+    requires most { cache.old.most ≡ 65536 }
+    ensures put { (f : Held → Val) → Keeps (put_turn cache.old.depth (shown_as f cache.old) key (f (Held.Octets payload.now))) (shown_as f cache.new) result }
+    ensures depth { cache.new.depth ≡ cache.old.depth }
+    ensures most { cache.new.most ≡ cache.old.most }
+{
+    match Text::from_octets(alloc, payload) {
+        Ok(kept) => put_held(alloc, key, Held::Octets(kept), cache),
+        Err(_) => Err(Stop::Halted(Halt::OutOfMemory)),
+    }
+}
+
 // A value under its key.
 fn put_value(
     alloc: Global,
@@ -142,28 +160,28 @@ fn plain_key(alloc: Global, rep: Rep, ty: &XType, payload: &[u8]) -> Option<Text
     }
 }
 
-/// Puts the value that the reader's type makes of a sample under its key: of a plain sample the octets are kept, which is looked for where
-/// there is a plan of the type. A sample that is discarded, must be understood or is malformed is passed over. A key too many is refused.
+/// Puts the value that the reader's type makes of a sample under its key: of a plain sample a copy of the octets is kept, which is looked for
+/// where there is a plan of the type. A sample that is discarded, must be understood or is malformed is passed over. A key too many is refused.
 /// After a stop the cache is unchanged.
 pub fn put_sample(
     alloc: Global,
     rep: Rep,
     ty: &XType,
     is_planned: bool,
-    payload: Text,
+    payload: &[u8],
     cache: &mut LastValues<Held>,
 ) -> Result<(), Stop>
     requires valid { IsValid ty.now }
-    requires size { length payload ≤ 1048576 }
+    requires size { length payload.now ≤ 1048576 }
     requires most { cache.old.most ≡ 65536 }
-    ensures put { Keeps (payload_turn cache.old.depth rep (tree ty.now) (shown_as (held_val rep (tree ty.now)) cache.old) payload) (shown_as (held_val rep (tree ty.now)) cache.new) result }
+    ensures put { Keeps (payload_turn cache.old.depth rep (tree ty.now) (shown_as (held_val rep (tree ty.now)) cache.old) payload.now) (shown_as (held_val rep (tree ty.now)) cache.new) result }
     ensures depth { cache.new.depth ≡ cache.old.depth }
     ensures most { cache.new.most ≡ cache.old.most }
 {
     if is_planned {
-        if let Some(key) = plain_key(alloc, rep, ty, payload.octets()) {
-            return put_held(alloc, key, Held::Octets(payload), cache);
+        if let Some(key) = plain_key(alloc, rep, ty, payload) {
+            return put_octets(alloc, key, payload, cache);
         }
     }
-    put_general(alloc, rep, ty, payload.octets(), cache)
+    put_general(alloc, rep, ty, payload, cache)
 }

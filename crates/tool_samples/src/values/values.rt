@@ -10,7 +10,6 @@ use std::alloc::Global;
 use tool_runs::output::{Payloads, Stop};
 use type_trees::XType;
 use xt_io::{Head, Kind, Sink};
-use xt_lists::Text;
 use xt_shapes::Rep;
 
 /// A sample for each JSON value of a type, in a representation.
@@ -72,11 +71,11 @@ impl Payloads for Values {
         alloc: Global,
         number: u32,
         _head: Head,
-        payload: Text,
+        payload: &[u8],
         sink: &mut K,
     ) -> Result<(), Stop> {
         let Values { ty, rep, scratch } = self;
-        write_value(alloc, ty, *rep, number, payload.octets(), scratch, sink)
+        write_value(alloc, ty, *rep, number, payload, scratch, sink)
     }
 
     ghost at_fault = { λ s k fault. run_at_fault Records (taking Json (write_turn s.rep (tree s.ty))) (λ u. finished) tt k fault };

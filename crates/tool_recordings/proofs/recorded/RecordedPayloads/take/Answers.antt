@@ -1,6 +1,4 @@
-use Rattle.std.proofs.Common.{◌≡◌, ◌≤◌, ℕ, ◌+◌, List, length, Err, Some, ap, sym, subst}
-use Rattle.std.specs.Io.KnownBytes.{Appends}
-use Rattle.xt_io.specs.Outside.{AppendsPrefix}
+use Rattle.std.proofs.Common.{◌≡◌, ◌≤◌, ℕ, ◌+◌, length, Err, Some, ap, sym, subst}
 use Rattle.xt_io.specs.declared.Kind.TheVariants.{Sample}
 use Rattle.xt_io.specs.Bundles.{item_of}
 use Rattle.xt_io.specs.Records.{record_octets}
@@ -16,7 +14,7 @@ use Rattle.tool_recordings.proofs.Kept.{sample_limit}
 use Rattle.tool_recordings.proofs.recorded.RecordedPayloads.take.Goals as goal
 
 pub write_sample-requires : goal.write_sample-requires
-write_sample-requires g c = subst (λ (l : List ℕ). length l ≤ 1048576) (sym c.octets.ensures) (subst (λ (n : ℕ). length c.args.payload ≤ n) (sample_limit c.args._head.kind c.requires.taken) c.requires.size)
+write_sample-requires g c = subst (λ (n : ℕ). length c.args.payload.now ≤ n) (sample_limit c.args._head.kind c.requires.taken) c.requires.size
 
 pub returns-in-Ok-clause-steps : goal.returns-in-Ok-clause-steps
 returns-in-Ok-clause-steps g c more =
@@ -24,15 +22,13 @@ returns-in-Ok-clause-steps g c more =
     let rest = samples_recorded (c.args._number + 1) more in
     let old = g.K.Sink.taken c.args.sink.now in
     let new = g.K.Sink.taken c.write_sample.new.sink in
-    let text = subst (λ (l : List ℕ). Appends old new (record_octets Sample l)) c.octets.ensures c.in-Ok.ensures.whole in
-    subst (λ (o : Output). Leads (Some o) (Some rest) old new) (sym (run_at_taken Records Sample record_turn end tt c.args._number (item_of c.args._head c.args.payload) more c.requires.taken)) (leads_piece rest (record_octets Sample c.args.payload) old new text)
+    subst (λ (o : Output). Leads (Some o) (Some rest) old new) (sym (run_at_taken Records Sample record_turn end tt c.args._number (item_of c.args._head c.args.payload.now) more c.requires.taken)) (leads_piece rest (record_octets Sample c.args.payload.now) old new c.in-Ok.ensures.whole)
 
-pub returns-clause-steps : goal.returns-clause-steps
-returns-clause-steps g c more =
+pub returns-in-Err-clause-steps : goal.returns-in-Err-clause-steps
+returns-in-Err-clause-steps g c more =
     let end : Unit {0} → Output = λ u. finished in
     let rest = samples_recorded (c.args._number + 1) more in
     let old = g.K.Sink.taken c.args.sink.now in
     let new = g.K.Sink.taken c.write_sample.new.sink in
-    let part = subst (λ (l : List ℕ). AppendsPrefix old new (record_octets Sample l)) c.octets.ensures c.in-Err.ensures.prefix in
     let no_read = λ (h : c.in-Err.halt ≡ ReadFault). c.in-Err.ensures.halts.no_read (ap (λ (e : Halt). Err e) h) in
-    subst (λ (o : Output). Writes (Some o) (Err c.in-Err.halt) old new) (sym (run_at_taken Records Sample record_turn end tt c.args._number (item_of c.args._head c.args.payload) more c.requires.taken)) (piece_is_cut rest (record_octets Sample c.args.payload) c.in-Err.halt old new part no_read)
+    subst (λ (o : Output). Writes (Some o) (Err c.in-Err.halt) old new) (sym (run_at_taken Records Sample record_turn end tt c.args._number (item_of c.args._head c.args.payload.now) more c.requires.taken)) (piece_is_cut rest (record_octets Sample c.args.payload.now) c.in-Err.halt old new c.in-Err.ensures.prefix no_read)

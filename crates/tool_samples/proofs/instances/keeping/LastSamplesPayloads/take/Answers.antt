@@ -26,6 +26,6 @@ returns-clause-steps g c more =
     let take_one : ℕ → Item → Instances → Turn Instances = instances_turn depth rep t in
     let rest : Instances → Output = λ next. instances_body depth rep t next (c.args._number + 1) more in
     let turn : List ℕ → Turn Instances = λ octets. payload_turn depth rep t es octets in
-    let steps = kept_on Lines (turn c.args.payload) rest now result a c.put_sample.ensures.put in
-    let taken = subst (λ (o : Output). Steps Lines (Some o) (Some (rest now)) result a a) (sym (run_at_taken Lines Sample take_one (instances_end t) es c.args._number (item_of c.args._head c.args.payload) more c.requires.taken)) steps in
-    subst (λ (d : ℕ). Steps Lines (Some (instances_body depth rep t es c.args._number (before_bundle (item_of c.args._head c.args.payload) more))) (Some (instances_body d rep t now (c.args._number + 1) more)) result a a) (sym c.put_sample.ensures.depth) taken
+    let steps = kept_on Lines (turn c.args.payload.now) rest now result a c.put_sample.ensures.put in
+    let taken = subst (λ (o : Output). Steps Lines (Some o) (Some (rest now)) result a a) (sym (run_at_taken Lines Sample take_one (instances_end t) es c.args._number (item_of c.args._head c.args.payload.now) more c.requires.taken)) steps in
+    subst (λ (d : ℕ). Steps Lines (Some (instances_body depth rep t es c.args._number (before_bundle (item_of c.args._head c.args.payload.now) more))) (Some (instances_body d rep t now (c.args._number + 1) more)) result a a) (sym c.put_sample.ensures.depth) taken

@@ -1,14 +1,13 @@
-use Rattle.std.proofs.Common.{ℕ, ◌+◌, List, Some, sym, subst}
+use Rattle.std.proofs.Common.{ℕ, ◌+◌, Some, sym, subst}
 use Rattle.xt_io.specs.declared.Item.{Item}
 use Rattle.xt_io.specs.declared.Kind.TheVariants.{Json}
 use Rattle.xt_io.specs.Bundles.{item_of}
 use Rattle.type_trees.specs.View.{tree}
-use Rattle.json_values.specs.Read.{read_as}
 use Rattle.tool_runs.specs.declared.output.ending.Style.TheVariants.{Records}
-use Rattle.tool_runs.specs.output.Outputs.{Output, Turn, after_turn, run, taking, finished}
+use Rattle.tool_runs.specs.output.Outputs.{Output, Turn, run, taking, finished}
 use Rattle.tool_runs.specs.output.Runs.{Steps}
 use Rattle.tool_runs.proofs.OfOutput.Turning.{run_at_taken}
-use Rattle.tool_samples.specs.lines.Lines.{write_turn, written}
+use Rattle.tool_samples.specs.lines.Lines.{write_turn}
 use Rattle.tool_samples.proofs.values.values.ValuesPayloads.take.Goals as goal
 
 pub returns-clause-steps : goal.returns-clause-steps
@@ -21,6 +20,4 @@ returns-clause-steps g c more =
     let old = g.K.Sink.taken c.args.sink.now in
     let new = g.K.Sink.taken c.write_value.new.sink in
     let result = c.write_value.result in
-    let turn : List ℕ → Turn (Unit {0}) = λ octets. written rep t c.args.number (read_as t octets) in
-    let steps = subst (λ (l : List ℕ). Steps Records (Some (after_turn Records (turn l) (λ (u : Unit {0}). rest))) (Some rest) result old new) c.octets.ensures (c.write_value.ensures.steps rest) in
-    subst (λ (o : Output). Steps Records (Some o) (Some rest) result old new) (sym (run_at_taken Records Json take_one end tt c.args.number (item_of c.args._head c.args.payload) more c.requires.taken)) steps
+    subst (λ (o : Output). Steps Records (Some o) (Some rest) result old new) (sym (run_at_taken Records Json take_one end tt c.args.number (item_of c.args._head c.args.payload.now) more c.requires.taken)) (c.write_value.ensures.steps rest)

@@ -1,6 +1,6 @@
 use Rattle.std.proofs.Common.{◌≡◌, ◌≤◌, ◌-◌, length}
 use Rattle.xt_outside.specs.Outside.{TakesUpTo}
-use Rattle.xt_io.proofs.filling.read_text.Given as goal
+use Rattle.xt_io.proofs.filling.read_into.Given as goal
 
 -- What was read so far is the text.
 abbrev pub invariant-chunks : goal.invariant-chunks
