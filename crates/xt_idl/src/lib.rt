@@ -8,6 +8,7 @@ mod light;
 mod measures;
 mod outlines;
 mod reading;
+mod standing;
 mod trees;
 
 pub use idl_input::IdlFault;

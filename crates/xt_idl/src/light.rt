@@ -1,19 +1,21 @@
 //! A definition without the types of its members and cases: what the rules at its own node look at.
-ghost use Rattle.std.specs.Prelude.{◌≡◌, ◌++◌, map, Some, IfOk, IfSome, OnOk};
+ghost use Rattle.std.specs.Prelude.{◌≡◌, ◌++◌, map, IfOk, IfSome, OnOk};
+ghost use Rattle.xt_shapes.specs.declared.leaves.Primitive.TheVariants.{Boolean};
 ghost use Rattle.type_trees.specs.Trees as trees;
-ghost use Rattle.type_trees.specs.View.{tree, member_tree, case_tree, struct_tree, union_tree, members_of, cases_of};
+ghost use Rattle.type_trees.specs.View.{tree, member_tree, struct_tree, union_tree};
 ghost use Rattle.idl_types.specs.Uses.{tree_at, whole};
 ghost use Rattle.idl_types.specs.Definitions.{declared, defined, members_before, bases_before};
 ghost use Rattle.xt_idl.specs.Light as spec;
 
+use crate::standing::{Stands, cases_of, structure_of, union_of};
 use crate::trees::{Inherited, bitmask, enumeration, nothing_inherited, of_structure};
 use idl_types::{
-    Declaration, Definition, StructDefinition, UnionDefinition, Used, UsedCase, UsedMember, boxed,
+    Declaration, Definition, StructDefinition, UnionDefinition, Used, UsedMember, boxed,
     declaration_at,
 };
 use std::alloc::Global;
-use type_trees::{AliasType, Base, Case, Member, StructType, UnionType, XType};
-use type_values::{copy_name, copy_plain, copy_text};
+use type_trees::{AliasType, Member, StructType, UnionType, XType};
+use type_values::{copy_name, copy_text};
 use xt_lists::{OutOfMemory, Row, Text};
 use xt_shapes::Prim;
 
@@ -76,25 +78,6 @@ fn light_base(
     }
 }
 
-#[tactic(auto, using(type_trees::proofs::Views::tree_rules))]
-pub(crate) fn structure_of(
-    name: Text,
-    kind: &StructDefinition,
-    bases: Row<Base>,
-    members: Row<Member>,
-) -> StructType
-    ensures { struct_tree result ≡ trees.structure (record { name = Some name; ext = kind.now.ext; nested = kind.now.nested; hashed_ids = kind.now.hashed_ids; bases = bases }) (members_of (map member_tree members)) }
-{
-    StructType {
-        name: Some(name),
-        ext: kind.ext,
-        nested: kind.nested,
-        hashed_ids: kind.hashed_ids,
-        bases,
-        members,
-    }
-}
-
 #[cycle(light)]
 #[tactic(auto, using(crate::proofs::Lightened::members_are))]
 fn light_structure(
@@ -111,29 +94,17 @@ fn light_structure(
     Ok(structure_of(name, kind, bases, members))
 }
 
-#[tactic(auto, using(type_trees::proofs::Views::tree_rules))]
-fn light_case(alloc: Global, case: &UsedCase) -> Result<Case, OutOfMemory>
-    ensures { IfOk result (λ c. case_tree c ≡ spec.bare_used case.now) }
-{
-    Ok(Case {
-        id: case.id,
-        name: copy_name(alloc, &case.name)?,
-        ty: XType::Prim(Prim::Boolean),
-        tc: case.tc,
-        labels: copy_plain(alloc, &case.labels)?,
-        is_default: case.is_default,
-    })
-}
+/// A boolean stands for every type.
+#[derive(Drop)]
+struct Bare;
 
-#[tactic(auto, using(std::proofs::lemmas::List::map_push))]
-fn light_cases(alloc: Global, cases: &[UsedCase]) -> Result<Row<Case>, OutOfMemory>
-    ensures { IfOk result (λ row. map case_tree row ≡ map spec.bare_used cases.now) }
-{
-    let mut row = Row::new(alloc);
-    for case in cases {
-        row.push(light_case(alloc, case)?)?;
+impl Stands for Bare {
+    ghost stood = { λ bare used. trees.prim Boolean };
+
+    #[tactic(auto, using(type_trees::proofs::Views::tree_rules))]
+    fn stand(&self, _alloc: Global, _used: &Used) -> Result<XType, OutOfMemory> {
+        Ok(XType::Prim(Prim::Boolean))
     }
-    Ok(row)
 }
 
 /// The type at a place, where a discriminator may have it.
@@ -175,27 +146,6 @@ pub(crate) fn disc_type(
     }
 }
 
-#[tactic(auto, using(type_trees::proofs::Views::tree_rules))]
-pub(crate) fn union_of(
-    name: Text,
-    kind: &UnionDefinition,
-    disc: XType,
-    cases: Row<Case>,
-) -> UnionType
-    ensures { union_tree result ≡ trees.union (record { name = Some name; ext = kind.now.ext; nested = kind.now.nested; hashed_ids = kind.now.hashed_ids; disc_key = kind.now.disc_key }) (tree disc) (cases_of (map case_tree cases)) }
-{
-    UnionType {
-        name: Some(name),
-        ext: kind.ext,
-        nested: kind.nested,
-        hashed_ids: kind.hashed_ids,
-        disc,
-        disc_key: kind.disc_key,
-        cases,
-    }
-}
-
-#[tactic(auto, using(crate::proofs::Lightened::cases_are))]
 fn light_union(
     alloc: Global,
     types: &[Declaration],
@@ -206,7 +156,7 @@ fn light_union(
     requires { tree disc ≡ whole (declared types.now) kind.now.disc }
     ensures { IfOk result (λ u. union_tree u ≡ spec.light (defined (declared types.now) name.now (Definition.Union kind.now))) }
 {
-    let cases = light_cases(alloc, kind.cases.as_slice())?;
+    let cases = cases_of(alloc, &Bare, kind.cases.as_slice())?;
     let name = copy_text(alloc, name)?;
     Ok(union_of(name, kind, disc, cases))
 }

@@ -1,27 +1,27 @@
 //! Declared types as their printed text shows them: what a definition uses stands by its name.
-ghost use Rattle.std.specs.Prelude.{◌≡◌, ◌∷◌, [], map, true, false, Some, IfOk, IfSome};
+ghost use Rattle.std.specs.Prelude.{◌≡◌, ◌∷◌, [], true, false, Some, IfOk, IfSome};
 ghost use Rattle.type_trees.specs.Trees as trees;
-ghost use Rattle.type_trees.specs.View.{tree, member_tree, case_tree, struct_tree, union_tree};
+ghost use Rattle.type_trees.specs.View.{tree, struct_tree, union_tree};
 ghost use Rattle.idl_printer.specs.Lines.{last_base, printed};
 ghost use Rattle.idl_types.specs.State as state;
 ghost use Rattle.idl_types.specs.Uses.{tree_at, whole};
-ghost use Rattle.idl_types.specs.Definitions.{declared, defined, member_head, case_head, bases_before};
+ghost use Rattle.idl_types.specs.Definitions.{declared, defined, bases_before};
 ghost use Rattle.idl_types.specs.Kept.{all_valid};
 ghost use Rattle.xt_idl.specs.Outlines as spec;
 
-use crate::light::{disc_type, structure_of, union_of};
+use crate::light::disc_type;
+use crate::standing::{
+    Places, Stands, append_members, cases_of, structure_of, union_of, with_places,
+};
 use crate::trees::{bitmask, enumeration, trees_of};
 use idl_printer::print;
 use idl_types::{
-    Declaration, Declarations, Definition, StructDefinition, UnionDefinition, Used, UsedCase,
-    UsedMember, boxed, declaration_at,
+    Declaration, Declarations, Definition, StructDefinition, UnionDefinition, Used, boxed,
+    declaration_at,
 };
 use std::alloc::Global;
-use type_trees::{
-    AliasType, ArrayType, Base, Case, Elem, MapType, Member, Named, SeqType, StructType, UnionType,
-    XType,
-};
-use type_values::{copy_name, copy_optional_text, copy_plain, copy_text};
+use type_trees::{AliasType, Base, Named, StructType, UnionType, XType};
+use type_values::{copy_optional_text, copy_text};
 use xt_lists::{OutOfMemory, Row, Text};
 use xt_shapes::Prim;
 
@@ -51,127 +51,31 @@ fn name_in(
     }
 }
 
-/// The type at a place, by its name.
-fn outline_at(alloc: Global, types: &[Declaration], at: usize) -> Result<XType, OutOfMemory>
-    ensures { IfOk result (λ t. tree t ≡ spec.use_outline (tree_at (declared types.now) at)) }
-{
-    let Some(declaration) = declaration_at(types, at) else {
-        return Ok(XType::Prim(Prim::Boolean));
-    };
-    let name = name_in(alloc, &types[..at], declaration)?;
-    alias_named(alloc, name)
+/// Types that were declared before: its name stands for each.
+#[derive(Drop)]
+struct ByName<'a> {
+    types: &'a [Declaration],
 }
 
-/// A type where it is used.
-#[tactic(auto, using(type_trees::proofs::Views::tree_rules, idl_types::proofs::Wholes::whole_rules))]
-fn outline_use(alloc: Global, types: &[Declaration], used: &Used) -> Result<XType, OutOfMemory>
-    ensures { IfOk result (λ t. tree t ≡ spec.use_outline (whole (declared types.now) used.now)) }
-{
-    match used {
-        Used::Prim(prim) => Ok(XType::Prim(*prim)),
-        Used::Str(bound) => Ok(XType::Str(*bound)),
-        Used::Seq { bound, tc, elem } => {
-            let ty = outline_use(alloc, types, elem)?;
-            let elem = Elem { ty, tc: *tc };
-            let kind = SeqType {
-                bound: *bound,
-                elem,
-            };
-            Ok(XType::Seq(boxed(alloc, kind)?))
-        }
-        Used::Array { dims, tc, elem } => {
-            let ty = outline_use(alloc, types, elem)?;
-            let elem = Elem { ty, tc: *tc };
-            let dims = copy_plain(alloc, dims)?;
-            Ok(XType::Array(boxed(alloc, ArrayType { dims, elem })?))
-        }
-        Used::Map {
-            bound,
-            key_tc,
-            key,
-            tc,
-            value,
-        } => {
-            let key = Elem {
-                ty: outline_use(alloc, types, key)?,
-                tc: *key_tc,
-            };
-            let value = Elem {
-                ty: outline_use(alloc, types, value)?,
-                tc: *tc,
-            };
-            let kind = MapType {
-                bound: *bound,
-                key,
-                value,
-            };
-            Ok(XType::Map(boxed(alloc, kind)?))
-        }
-        Used::Declared(at) => outline_at(alloc, types, *at),
+impl Places for ByName<'_> {
+    ghost placed = { λ them at. spec.use_outline (tree_at (declared them.types.now) at) };
+
+    /// A boolean where none stands there.
+    fn at(&self, alloc: Global, at: usize) -> Result<XType, OutOfMemory> {
+        let Some(declaration) = declaration_at(self.types, at) else {
+            return Ok(XType::Prim(Prim::Boolean));
+        };
+        let name = name_in(alloc, &self.types[..at], declaration)?;
+        alias_named(alloc, name)
     }
 }
 
-#[tactic(auto, using(type_trees::proofs::Views::tree_rules))]
-fn outline_member(
-    alloc: Global,
-    types: &[Declaration],
-    member: &UsedMember,
-) -> Result<Member, OutOfMemory>
-    ensures { IfOk result (λ m. member_tree m ≡ (member_head member.now, spec.use_outline (whole (declared types.now) member.now.used))) }
-{
-    Ok(Member {
-        id: member.id,
-        name: copy_name(alloc, &member.name)?,
-        ty: outline_use(alloc, types, &member.used)?,
-        tc: member.tc,
-        optional: member.optional,
-        must_understand: member.must_understand,
-        key: member.key,
-    })
-}
+impl Stands for ByName<'_> {
+    ghost stood = { λ them used. spec.use_outline (whole (declared them.types.now) used) };
 
-#[tactic(auto, using(std::proofs::lemmas::List::map_push))]
-fn outline_members(
-    alloc: Global,
-    types: &[Declaration],
-    members: &[UsedMember],
-) -> Result<Row<Member>, OutOfMemory>
-    ensures { IfOk result (λ row. map member_tree row ≡ map (λ m. (member_head m, spec.use_outline (whole (declared types.now) m.used))) members.now) }
-{
-    let mut row = Row::new(alloc);
-    for member in members {
-        row.push(outline_member(alloc, types, member)?)?;
+    fn stand(&self, alloc: Global, used: &Used) -> Result<XType, OutOfMemory> {
+        with_places(alloc, self, used)
     }
-    Ok(row)
-}
-
-#[tactic(auto, using(type_trees::proofs::Views::tree_rules))]
-fn outline_case(alloc: Global, types: &[Declaration], case: &UsedCase) -> Result<Case, OutOfMemory>
-    ensures { IfOk result (λ c. case_tree c ≡ (case_head case.now, spec.use_outline (whole (declared types.now) case.now.used))) }
-{
-    Ok(Case {
-        id: case.id,
-        name: copy_name(alloc, &case.name)?,
-        ty: outline_use(alloc, types, &case.used)?,
-        tc: case.tc,
-        labels: copy_plain(alloc, &case.labels)?,
-        is_default: case.is_default,
-    })
-}
-
-#[tactic(auto, using(std::proofs::lemmas::List::map_push))]
-fn outline_cases(
-    alloc: Global,
-    types: &[Declaration],
-    cases: &[UsedCase],
-) -> Result<Row<Case>, OutOfMemory>
-    ensures { IfOk result (λ row. map case_tree row ≡ map (λ c. (case_head c, spec.use_outline (whole (declared types.now) c.used))) cases.now) }
-{
-    let mut row = Row::new(alloc);
-    for case in cases {
-        row.push(outline_case(alloc, types, case)?)?;
-    }
-    Ok(row)
 }
 
 /// The base of this name, in front of no members.
@@ -222,7 +126,9 @@ fn outline_structure(
     ensures { IfOk result (λ s. struct_tree s ≡ spec.outline (defined (declared types.now) name.now (Definition.Struct kind.now))) }
 {
     let bases = outline_base(alloc, types, kind.base)?;
-    let members = outline_members(alloc, types, kind.members.as_slice())?;
+    let mut members = Row::new(alloc);
+    let own = kind.members.as_slice();
+    append_members(alloc, &ByName { types }, own, &mut members)?;
     let name = copy_text(alloc, name)?;
     Ok(structure_of(name, kind, bases, members))
 }
@@ -239,7 +145,7 @@ fn outline_union(
     requires { tree disc ≡ whole (declared types.now) kind.now.disc }
     ensures { IfOk result (λ u. union_tree u ≡ spec.outline (defined (declared types.now) name.now (Definition.Union kind.now))) }
 {
-    let cases = outline_cases(alloc, types, kind.cases.as_slice())?;
+    let cases = cases_of(alloc, &ByName { types }, kind.cases.as_slice())?;
     let name = copy_text(alloc, name)?;
     Ok(union_of(name, kind, disc, cases))
 }
@@ -270,7 +176,7 @@ fn outline_of(
             Ok(Some(XType::Union(boxed(alloc, union)?)))
         }
         Definition::Alias(used) => {
-            let ty = outline_use(alloc, types, used)?;
+            let ty = ByName { types }.stand(alloc, used)?;
             let name = Some(copy_text(alloc, name)?);
             Ok(Some(XType::Alias(boxed(alloc, AliasType { name, ty })?)))
         }

@@ -1,25 +1,21 @@
 //! Declared types as trees: where a definition uses a declared type, a copy of its tree stands.
-ghost use Rattle.std.specs.Prelude.{◌≡◌, ◌++◌, [], map, slice_get, IfOk, OnOk};
+ghost use Rattle.std.specs.Prelude.{◌≡◌, [], map, slice_get, IfOk};
 ghost use Rattle.std.specs.Option.{option_map};
-ghost use Rattle.type_trees.specs.View.{tree, member_tree, case_tree, struct_tree};
+ghost use Rattle.type_trees.specs.View.{tree, member_tree, struct_tree};
 ghost use Rattle.type_trees.specs.Trees as trees;
 ghost use Rattle.idl_types.specs.State.{declared};
 ghost use Rattle.idl_types.specs.Uses.{tree_at, whole};
 ghost use Rattle.idl_types.specs.Definitions as spec;
 ghost use Rattle.idl_types.specs.Definitions.{declared as declarations_view};
-ghost use Rattle.idl_types.specs.Definitions.{defined, member_whole, case_whole, members_before, bases_before, members_on, bases_on};
+ghost use Rattle.idl_types.specs.Definitions.{defined, members_before, bases_before, members_on, bases_on};
 
-use idl_types::{
-    Declaration, Definition, StructDefinition, UnionDefinition, Used, UsedCase, UsedMember, boxed,
+use crate::standing::{
+    Places, Stands, append_members, cases_of, structure_of, union_of, with_places,
 };
+use idl_types::{Declaration, Definition, StructDefinition, UnionDefinition, Used, boxed};
 use std::alloc::Global;
-use type_trees::{
-    AliasType, ArrayType, Base, Case, Elem, EnumType, MapType, MaskType, Member, Named, SeqType,
-    StructType, UnionType, XType,
-};
-use type_values::{
-    copy_flags, copy_literals, copy_name, copy_optional_text, copy_plain, copy_text, copy_type,
-};
+use type_trees::{AliasType, Base, EnumType, MaskType, Member, Named, StructType, XType};
+use type_values::{copy_flags, copy_literals, copy_optional_text, copy_text, copy_type};
 use xt_lists::{OutOfMemory, Row, Text};
 use xt_shapes::Prim;
 
@@ -29,63 +25,30 @@ fn named_at(types: &[Named], at: usize) -> Option<&Named>
     types.get(at)
 }
 
-/// The tree of the type at a place; a boolean where none stands there.
-#[tactic(auto, using(crate::proofs::NamedAt::at_none, crate::proofs::NamedAt::at_some))]
-fn type_at(alloc: Global, types: &[Named], at: usize) -> Result<XType, OutOfMemory>
-    ensures { IfOk result (λ t. tree t ≡ tree_at (declared types.now) at) }
-{
-    match named_at(types, at) {
-        Some(named) => copy_type(alloc, &named.ty),
-        None => Ok(XType::Prim(Prim::Boolean)),
+/// Types that were declared before: a copy of its tree stands for each.
+#[derive(Drop)]
+struct Copies<'a> {
+    types: &'a [Named],
+}
+
+impl Places for Copies<'_> {
+    ghost placed = { λ copies. tree_at (declared copies.types.now) };
+
+    /// A boolean where none stands there.
+    #[tactic(auto, using(crate::proofs::NamedAt::at_none, crate::proofs::NamedAt::at_some))]
+    fn at(&self, alloc: Global, at: usize) -> Result<XType, OutOfMemory> {
+        match named_at(self.types, at) {
+            Some(named) => copy_type(alloc, &named.ty),
+            None => Ok(XType::Prim(Prim::Boolean)),
+        }
     }
 }
 
-/// The tree of a type where it is used.
-#[tactic(auto, using(type_trees::proofs::Views::tree_rules, idl_types::proofs::Wholes::whole_rules))]
-fn type_of(alloc: Global, types: &[Named], used: &Used) -> Result<XType, OutOfMemory>
-    ensures { IfOk result (λ t. tree t ≡ whole (declared types.now) used.now) }
-{
-    match used {
-        Used::Prim(prim) => Ok(XType::Prim(*prim)),
-        Used::Str(bound) => Ok(XType::Str(*bound)),
-        Used::Seq { bound, tc, elem } => {
-            let ty = type_of(alloc, types, elem)?;
-            let elem = Elem { ty, tc: *tc };
-            let kind = SeqType {
-                bound: *bound,
-                elem,
-            };
-            Ok(XType::Seq(boxed(alloc, kind)?))
-        }
-        Used::Array { dims, tc, elem } => {
-            let ty = type_of(alloc, types, elem)?;
-            let elem = Elem { ty, tc: *tc };
-            let dims = copy_plain(alloc, dims)?;
-            Ok(XType::Array(boxed(alloc, ArrayType { dims, elem })?))
-        }
-        Used::Map {
-            bound,
-            key_tc,
-            key,
-            tc,
-            value,
-        } => {
-            let key = Elem {
-                ty: type_of(alloc, types, key)?,
-                tc: *key_tc,
-            };
-            let value = Elem {
-                ty: type_of(alloc, types, value)?,
-                tc: *tc,
-            };
-            let kind = MapType {
-                bound: *bound,
-                key,
-                value,
-            };
-            Ok(XType::Map(boxed(alloc, kind)?))
-        }
-        Used::Declared(at) => type_at(alloc, types, *at),
+impl Stands for Copies<'_> {
+    ghost stood = { λ copies. whole (declared copies.types.now) };
+
+    fn stand(&self, alloc: Global, used: &Used) -> Result<XType, OutOfMemory> {
+        with_places(alloc, self, used)
     }
 }
 
@@ -112,62 +75,6 @@ pub(crate) fn bitmask(alloc: Global, kind: &MaskType) -> Result<XType, OutOfMemo
         flags: copy_flags(alloc, kind.flags.as_slice())?,
     };
     Ok(XType::Mask(boxed(alloc, copy)?))
-}
-
-#[tactic(auto, using(type_trees::proofs::Views::tree_rules))]
-fn member_of(alloc: Global, types: &[Named], member: &UsedMember) -> Result<Member, OutOfMemory>
-    ensures { IfOk result (λ m. member_tree m ≡ member_whole (declared types.now) member.now) }
-{
-    Ok(Member {
-        id: member.id,
-        name: copy_name(alloc, &member.name)?,
-        ty: type_of(alloc, types, &member.used)?,
-        tc: member.tc,
-        optional: member.optional,
-        must_understand: member.must_understand,
-        key: member.key,
-    })
-}
-
-/// Appends a structure's own members.
-#[tactic(auto, using(std::proofs::lemmas::List::map_push))]
-fn append_members(
-    alloc: Global,
-    types: &[Named],
-    own: &[UsedMember],
-    members: &mut Row<Member>,
-) -> Result<(), OutOfMemory>
-    ensures { OnOk result (map member_tree members.new ≡ map member_tree members.old ++ map (member_whole (declared types.now)) own.now) }
-{
-    for member in own {
-        members.push(member_of(alloc, types, member)?)?;
-    }
-    Ok(())
-}
-
-#[tactic(auto, using(type_trees::proofs::Views::tree_rules))]
-fn case_of(alloc: Global, types: &[Named], case: &UsedCase) -> Result<Case, OutOfMemory>
-    ensures { IfOk result (λ c. case_tree c ≡ case_whole (declared types.now) case.now) }
-{
-    Ok(Case {
-        id: case.id,
-        name: copy_name(alloc, &case.name)?,
-        ty: type_of(alloc, types, &case.used)?,
-        tc: case.tc,
-        labels: copy_plain(alloc, &case.labels)?,
-        is_default: case.is_default,
-    })
-}
-
-#[tactic(auto, using(std::proofs::lemmas::List::map_push))]
-fn cases_of(alloc: Global, types: &[Named], cases: &[UsedCase]) -> Result<Row<Case>, OutOfMemory>
-    ensures { IfOk result (λ row. map case_tree row ≡ map (case_whole (declared types.now)) cases.now) }
-{
-    let mut row = Row::new(alloc);
-    for case in cases {
-        row.push(case_of(alloc, types, case)?)?;
-    }
-    Ok(row)
 }
 
 /// What a structure's tree has from its base.
@@ -235,57 +142,46 @@ fn of_type(alloc: Global, ty: XType) -> Result<Inherited, OutOfMemory>
     }
 }
 
-fn of_base(alloc: Global, types: &[Named], base: Option<usize>) -> Result<Inherited, OutOfMemory>
-    ensures bases { IfOk result (λ h. h.bases ≡ bases_before (declared types.now) base) }
-    ensures members { IfOk result (λ h. map member_tree h.members ≡ members_before (declared types.now) base) }
+fn of_base(alloc: Global, copies: &Copies, base: Option<usize>) -> Result<Inherited, OutOfMemory>
+    ensures bases { IfOk result (λ h. h.bases ≡ bases_before (declared copies.now.types.now) base) }
+    ensures members { IfOk result (λ h. map member_tree h.members ≡ members_before (declared copies.now.types.now) base) }
 {
     match base {
         None => Ok(nothing_inherited(alloc)),
-        Some(at) => of_type(alloc, type_at(alloc, types, at)?),
+        Some(at) => of_type(alloc, copies.at(alloc, at)?),
     }
 }
 
 #[tactic(auto, using(type_trees::proofs::Views::tree_rules))]
 fn structure(
     alloc: Global,
-    types: &[Named],
+    copies: &Copies,
     name: &Text,
-    definition: &StructDefinition,
+    kind: &StructDefinition,
 ) -> Result<XType, OutOfMemory>
-    ensures { IfOk result (λ t. tree t ≡ defined (declared types.now) name.now (Definition.Struct definition.now)) }
+    ensures { IfOk result (λ t. tree t ≡ defined (declared copies.now.types.now) name.now (Definition.Struct kind.now)) }
 {
-    let Inherited { bases, mut members } = of_base(alloc, types, definition.base)?;
-    append_members(alloc, types, definition.members.as_slice(), &mut members)?;
-    let kind = StructType {
-        name: Some(copy_text(alloc, name)?),
-        ext: definition.ext,
-        nested: definition.nested,
-        hashed_ids: definition.hashed_ids,
-        bases,
-        members,
-    };
-    Ok(XType::Struct(boxed(alloc, kind)?))
+    let Inherited { bases, mut members } = of_base(alloc, copies, kind.base)?;
+    append_members(alloc, copies, kind.members.as_slice(), &mut members)?;
+    let name = copy_text(alloc, name)?;
+    let structure = structure_of(name, kind, bases, members);
+    Ok(XType::Struct(boxed(alloc, structure)?))
 }
 
 #[tactic(auto, using(type_trees::proofs::Views::tree_rules))]
 fn union(
     alloc: Global,
-    types: &[Named],
+    copies: &Copies,
     name: &Text,
-    definition: &UnionDefinition,
+    kind: &UnionDefinition,
 ) -> Result<XType, OutOfMemory>
-    ensures { IfOk result (λ t. tree t ≡ defined (declared types.now) name.now (Definition.Union definition.now)) }
+    ensures { IfOk result (λ t. tree t ≡ defined (declared copies.now.types.now) name.now (Definition.Union kind.now)) }
 {
-    let kind = UnionType {
-        name: Some(copy_text(alloc, name)?),
-        ext: definition.ext,
-        nested: definition.nested,
-        hashed_ids: definition.hashed_ids,
-        disc: type_of(alloc, types, &definition.disc)?,
-        disc_key: definition.disc_key,
-        cases: cases_of(alloc, types, definition.cases.as_slice())?,
-    };
-    Ok(XType::Union(boxed(alloc, kind)?))
+    let disc = copies.stand(alloc, &kind.disc)?;
+    let cases = cases_of(alloc, copies, kind.cases.as_slice())?;
+    let name = copy_text(alloc, name)?;
+    let union = union_of(name, kind, disc, cases);
+    Ok(XType::Union(boxed(alloc, union)?))
 }
 
 /// The tree of a definition, over the trees of the types that were declared before.
@@ -298,13 +194,14 @@ pub(crate) fn defined_type(
 ) -> Result<XType, OutOfMemory>
     ensures { IfOk result (λ t. tree t ≡ defined (declared types.now) name.now definition.now) }
 {
+    let copies = Copies { types };
     match definition {
         Definition::Enum(kind) => enumeration(alloc, kind),
         Definition::Mask(kind) => bitmask(alloc, kind),
-        Definition::Struct(kind) => structure(alloc, types, name, kind),
-        Definition::Union(kind) => union(alloc, types, name, kind),
+        Definition::Struct(kind) => structure(alloc, &copies, name, kind),
+        Definition::Union(kind) => union(alloc, &copies, name, kind),
         Definition::Alias(used) => {
-            let ty = type_of(alloc, types, used)?;
+            let ty = copies.stand(alloc, used)?;
             let name = Some(copy_text(alloc, name)?);
             Ok(XType::Alias(boxed(alloc, AliasType { name, ty })?))
         }
