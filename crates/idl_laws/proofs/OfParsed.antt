@@ -1,3 +1,7 @@
+pub mod Gives
+pub mod Lists
+pub mod ByName
+pub mod TypesRead
 pub mod Sound
 pub mod Uses
 pub mod Types

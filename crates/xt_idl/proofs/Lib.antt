@@ -1,7 +1,3 @@
-pub mod Gives
-pub mod Lists
-pub mod ByName
-pub mod TypesRead
 mod NamedAt
 mod Measuring
 mod Lightened

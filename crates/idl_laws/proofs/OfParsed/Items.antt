@@ -19,7 +19,7 @@ use Rattle.xt_idl.specs.Leading.{leading_notes}
 use Rattle.xt_idl.specs.Whole.{definition_by, fault_of, valid_or, outcome, typed, opened_by, module_def, may_close, closed, definition_or_module, item, at_end, items_from}
 use Rattle.idl_laws.specs.Printable.{IsDefinition}
 use Rattle.idl_laws.proofs.Names.{is_free}
-use Rattle.xt_idl.proofs.Gives.{Yields, gives, yields, bind, behind, next, given, refused, unread, tested, by_input, at_input}
+use Rattle.idl_laws.proofs.OfParsed.Gives.{Yields, gives, yields, bind, behind, next, given, refused, unread, tested, by_input, at_input}
 use Rattle.idl_laws.proofs.OfParsed.Made.{IsMade, definition_gives}
 use Rattle.idl_laws.proofs.OfParsed.Words.{name_gives}
 use Rattle.idl_laws.proofs.OfParsed.Titles.{IsTitled, title_yields}

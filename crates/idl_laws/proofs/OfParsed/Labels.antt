@@ -19,7 +19,7 @@ use Rattle.idl_types.specs.Names.{scoped}
 use Rattle.idl_definitions.specs.Unions.{behind, truth_label, is_character, character_label, or_syntax, number_label, value_named, known_label, literal_label, label_by, label, labels_from, labels}
 use Rattle.idl_laws.specs.Printable.{IsNamed, IsTyped, IsDefinition, is_number, literal_fits, label_fits}
 use Rattle.idl_laws.specs.Printable as printable
-use Rattle.xt_idl.proofs.Gives.{Yields, bind, behind as following, next, given, fails, tested, by_input, at_input, read, if_eaten}
+use Rattle.idl_laws.proofs.OfParsed.Gives.{Yields, bind, behind as following, next, given, fails, tested, by_input, at_input, read, if_eaten}
 use Rattle.idl_laws.proofs.OfParsed.Sound.{Sound}
 use Rattle.idl_laws.proofs.OfParsed.Uses.{taken_within, typed_more}
 use Rattle.idl_laws.proofs.OfParsed.Numbered.{all_more}

@@ -21,7 +21,7 @@ use Rattle.idl_definitions.specs.Numbered.{numbered_def, enum_def, bitmask_def}
 use Rattle.idl_definitions.specs.Unions.{union_def}
 use Rattle.idl_laws.specs.Printable.{IsOnBase, EachMember, own_members, IsDefinition}
 use Rattle.xt_idl.specs.Whole.{definition_by}
-use Rattle.xt_idl.proofs.Gives.{Gives, gives, Yields, bind, next, given, fails}
+use Rattle.idl_laws.proofs.OfParsed.Gives.{Gives, gives, Yields, bind, next, given, fails}
 use Rattle.idl_laws.proofs.OfParsed.Sound.{Sound}
 use Rattle.idl_laws.proofs.OfParsed.Uses.{use_typed}
 use Rattle.idl_laws.proofs.OfParsed.Types.{type_yields}

@@ -20,8 +20,8 @@ use Rattle.idl_types.specs.Definitions.{ListedMembers}
 use Rattle.idl_definitions.specs.Members.{dims_from, dims, with_dims, dimensioned, once, new_name, id_for, shaped, Listed, another, members_of_type}
 use Rattle.idl_definitions.specs.Structures.{inherited, members}
 use Rattle.idl_laws.specs.Printable.{IsUse, IsTyped, EachBound, EachMember, is_spelled}
-use Rattle.xt_idl.proofs.Gives.{Yields, bind, behind, next, given, fails, if_eaten, by_input, at_input, name_yields, bound_yields}
-use Rattle.xt_idl.proofs.Lists.{commas_yield, brace_yields}
+use Rattle.idl_laws.proofs.OfParsed.Gives.{Yields, bind, behind, next, given, fails, if_eaten, by_input, at_input, name_yields, bound_yields}
+use Rattle.idl_laws.proofs.OfParsed.Lists.{commas_yield, brace_yields}
 use Rattle.idl_laws.proofs.OfParsed.Sound.{Sound}
 use Rattle.idl_laws.proofs.OfParsed.Uses.{use_typed}
 use Rattle.idl_laws.proofs.OfParsed.Types.{type_yields}

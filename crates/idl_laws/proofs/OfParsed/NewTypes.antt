@@ -7,7 +7,7 @@ use Rattle.idl_input.specs.Input.{here}
 use Rattle.idl_types.specs.State.{State}
 use Rattle.idl_types.specs.Names.{innermost, full_name}
 use Rattle.idl_definitions.specs.Structures.{NewName, new_type}
-use Rattle.xt_idl.proofs.Gives.{Yields, bind, behind, name_yields}
+use Rattle.idl_laws.proofs.OfParsed.Gives.{Yields, bind, behind, name_yields}
 use Rattle.idl_laws.proofs.OfParsed.Members.{once_yields}
 
 -- a name that the innermost module lacks, with its full name

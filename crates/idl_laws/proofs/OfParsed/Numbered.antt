@@ -23,8 +23,8 @@ use Rattle.idl_definitions.specs.Numbered.{Numbered, number_or, with_number, par
 use Rattle.idl_definitions.specs.declared.settings.Settings.{Settings}
 use Rattle.idl_laws.specs.Printable.{is_spelled, is_number, literal_fits}
 use Rattle.type_rules.proofs.OfFaultless.Nodes.{at_and_below, no_fault}
-use Rattle.xt_idl.proofs.Gives.{Yields, bind, behind, given, fails}
-use Rattle.xt_idl.proofs.Lists.{commas_yield}
+use Rattle.idl_laws.proofs.OfParsed.Gives.{Yields, bind, behind, given, fails}
+use Rattle.idl_laws.proofs.OfParsed.Lists.{commas_yield}
 use Rattle.idl_laws.proofs.OfParsed.Members.{new_name_yields, spelled_name}
 
 pub all_more : {A : Type 0} (p : A → Bool) (l : List A) (a : A) → all p l ≡ true → p a ≡ true → all p (l ++ a ∷ []) ≡ true

@@ -17,10 +17,10 @@ use Rattle.idl_printer.specs.Parts.{members_behind}
 use Rattle.idl_printer.specs.Lines.{last_base, count_of}
 use Rattle.idl_laws.specs.Printable.{IsNamed, IsOnBase}
 use Rattle.idl_laws.proofs.Bases.{last_is}
-use Rattle.xt_idl.proofs.Gives.{Yields, bind, given, if_eaten}
+use Rattle.idl_laws.proofs.OfParsed.Gives.{Yields, bind, given, if_eaten}
 use Rattle.idl_laws.proofs.OfParsed.Sound.{Sound}
 use Rattle.idl_laws.proofs.OfParsed.Uses.{declared_used}
-use Rattle.xt_idl.proofs.ByName.{Stands, by_name_yields}
+use Rattle.idl_laws.proofs.OfParsed.ByName.{Stands, by_name_yields}
 
 -- ---- a valid structure has few members
 

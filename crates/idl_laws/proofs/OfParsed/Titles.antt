@@ -18,7 +18,7 @@ use Rattle.idl_definitions.specs.Notes.{settings}
 use Rattle.idl_types.specs.Types.{a_type}
 use Rattle.xt_idl.specs.Whole.{definition_by}
 use Rattle.idl_laws.proofs.Names.{is_free}
-use Rattle.xt_idl.proofs.Gives.{Yields, yields, bind, behind, next, given, refused, unread, by_input}
+use Rattle.idl_laws.proofs.OfParsed.Gives.{Yields, yields, bind, behind, next, given, refused, unread, by_input}
 use Rattle.idl_laws.proofs.OfParsed.Words.{name_gives}
 
 abbrev IsFreeName : NewName → Type 0

@@ -2,9 +2,9 @@
 use Rattle.idl_types.specs.State.{State, Declared}
 use Rattle.idl_types.specs.Names.{type_by_name}
 use Rattle.idl_types.specs.Types.{a_type}
-use Rattle.xt_idl.proofs.Gives.{Yields, kept}
-use Rattle.xt_idl.proofs.ByName.{by_name_yields}
-use Rattle.xt_idl.proofs.TypesRead.{IsKept, type_yields as read_yields}
+use Rattle.idl_laws.proofs.OfParsed.Gives.{Yields, kept}
+use Rattle.idl_laws.proofs.OfParsed.ByName.{by_name_yields}
+use Rattle.idl_laws.proofs.OfParsed.TypesRead.{IsKept, type_yields as read_yields}
 use Rattle.idl_laws.specs.Printable.{IsUse}
 use Rattle.idl_laws.proofs.OfParsed.Sound.{Sound}
 use Rattle.idl_laws.proofs.OfParsed.Uses.{declared_used}

@@ -10,8 +10,8 @@ use Rattle.idl_types.specs.State.{State, Declared}
 use Rattle.idl_definitions.specs.Lists.{to_brace}
 use Rattle.idl_definitions.specs.Unions.{behind, Gathered, no_cases_yet, a_case, case, discriminator}
 use Rattle.idl_laws.specs.Printable.{IsUse, EachCase, label_fits}
-use Rattle.xt_idl.proofs.Gives.{Yields, bind, behind as following, next, given}
-use Rattle.xt_idl.proofs.Lists.{brace_yields}
+use Rattle.idl_laws.proofs.OfParsed.Gives.{Yields, bind, behind as following, next, given}
+use Rattle.idl_laws.proofs.OfParsed.Lists.{brace_yields}
 use Rattle.idl_laws.proofs.OfParsed.Sound.{Sound}
 use Rattle.idl_laws.proofs.OfParsed.Types.{type_yields}
 use Rattle.idl_laws.proofs.OfParsed.Members.{new_name_yields, shaped_yields, IsMember}

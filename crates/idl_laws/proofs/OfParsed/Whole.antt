@@ -11,7 +11,7 @@ use Rattle.xt_idl.specs.Whole.{items_from, types_of, idl}
 use Rattle.idl_laws.specs.Printable.{has_no_keyword, IsDefinition, AreDefinitions, IsPrintable}
 use Rattle.idl_laws.proofs.Whole.{printed_is_read_again}
 use Rattle.idl_laws.specs.parsed.Laws.{ParsedIsPrintable, ParsedIsReadAgain}
-use Rattle.xt_idl.proofs.Gives.{gives}
+use Rattle.idl_laws.proofs.OfParsed.Gives.{gives}
 use Rattle.idl_laws.proofs.OfParsed.Sound.{Sound, IsDeclared}
 use Rattle.idl_laws.proofs.OfParsed.States.{Holds, start_holds}
 use Rattle.idl_laws.proofs.OfParsed.Items.{items_yield}

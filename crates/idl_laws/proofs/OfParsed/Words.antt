@@ -16,7 +16,7 @@ use Rattle.idl_input.specs.Words.{is_keyword}
 use Rattle.idl_input.specs.Input.{Input, name, sees_name, kind, spelling, next, place}
 use Rattle.idl_laws.proofs.Fronts.{is_run, some_octet}
 use Rattle.idl_laws.proofs.Names.{is_free}
-use Rattle.xt_idl.proofs.Gives.{Gives, pure_gives}
+use Rattle.idl_laws.proofs.OfParsed.Gives.{Gives, pure_gives}
 
 -- ---- tokens that are words
 

@@ -8,7 +8,7 @@ use Rattle.idl_tokens.specs.Classes.{Text}
 use Rattle.idl_input.specs.Input.{here}
 use Rattle.idl_types.specs.State.{State, Declared}
 use Rattle.idl_types.specs.Names.{type_by_name, meant, scoped, or_unknown, type_at, place_by}
-use Rattle.xt_idl.proofs.Gives.{Yields, behind, given, fails}
+use Rattle.idl_laws.proofs.OfParsed.Gives.{Yields, behind, given, fails}
 
 unknown_yields : (P : Tree → Type 0) (at : ℕ) (o : Option Tree) → ((t : Tree) → o ≡ Some t → P t) → Yields (or_unknown at o) P
 unknown_yields P at (Some t) all = given (all t refl)

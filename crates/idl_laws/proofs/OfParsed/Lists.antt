@@ -3,7 +3,7 @@ use Rattle.std.proofs.Common.{ℕ, zero, suc}
 use Rattle.std.specs.Prelude.{codes}
 use Rattle.idl_input.specs.Input.{Parser, turns}
 use Rattle.idl_definitions.specs.Lists.{comma_from, with_commas, braced_from, to_brace}
-use Rattle.xt_idl.proofs.Gives.{Yields, bind, given, fails, by_input, at_input, if_eaten}
+use Rattle.idl_laws.proofs.OfParsed.Gives.{Yields, bind, given, fails, by_input, at_input, if_eaten}
 
 comma_yields : {A : Type 0} (step : A → Parser A) (P : A → Type 0) → ((a : A) → P a → Yields (step a) P) → (n : ℕ) (a : A) → P a → Yields (comma_from step n a) P
 unfolding comma_from

@@ -11,7 +11,7 @@ use Rattle.idl_input.specs.Input.{Parser, ◌>>=◌, ◌>>◌, pure, take_token,
 use Rattle.idl_types.specs.State.{State}
 use Rattle.idl_types.specs.Names.{type_by_name}
 use Rattle.idl_types.specs.Types.{last_bound, string_type, long_type, unsigned_type, element, sequence_type, map_type, named_type, plain_type, type_by, deep_type, due, type_to, a_type}
-use Rattle.xt_idl.proofs.Gives.{Yields, bind, behind, next, given, fails, either, tested, by_input, at_input, if_eaten, bound_yields}
+use Rattle.idl_laws.proofs.OfParsed.Gives.{Yields, bind, behind, next, given, fails, either, tested, by_input, at_input, if_eaten, bound_yields}
 
 -- each type that is made of such types is such a type
 pub record IsKept (P : Tree → Type 0) : Type 0 where
