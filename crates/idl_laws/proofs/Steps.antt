@@ -8,7 +8,7 @@ use Rattle.std.proofs.lemmas.Bool.{not-true}
 use Rattle.idl_tokens.specs.declared.tokens.TokenKind.{TokenKind}
 use Rattle.idl_tokens.specs.declared.tokens.TokenKind.TheVariants.{Word}
 use Rattle.idl_tokens.specs.Classes.{Text}
-use Rattle.idl_tokens.specs.Tokens.{skip, token, is_word, is_number, is_word_or_mark}
+use Rattle.idl_tokens.specs.Tokens.{skip, token, is_word, is_word_or_mark}
 use Rattle.idl_tokens.specs.Tokens.{sees as sees_text, kind_at, spelling_at}
 use Rattle.idl_tokens.specs.Tokens as tokens
 use Rattle.idl_input.specs.Words.{keyword, is_keyword}

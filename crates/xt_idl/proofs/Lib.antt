@@ -1,6 +1,9 @@
 mod NamedAt
 mod Measuring
 mod Lightened
+mod Numbering
+mod Keeping
+mod StructureClear
 mod ValidBy
 mod Stood
 mod Outlined

@@ -130,11 +130,11 @@ some_nodes (structure h ms) = omega arith
 some_nodes (union head d cs) = omega arith
 some_nodes (alias n t) = omega arith
 
-as_many_nodes : (ms : Members) → length (listed ms) ≤ member_nodes ms
+pub as_many_nodes : (ms : Members) → length (listed ms) ≤ member_nodes ms
 as_many_nodes no_members = omega arith
 as_many_nodes (member h t ms) = omega (arith, some_nodes t, as_many_nodes ms)
 
-none_is : (o : Option (ℕ × List Step)) → is_clear o ≡ true → o ≡ None
+pub none_is : (o : Option (ℕ × List Step)) → is_clear o ≡ true → o ≡ None
 none_is None e = refl
 none_is (Some f) e = absurd (true≢false (sym e))
 
@@ -158,12 +158,12 @@ boolean_clear : is_clear (type_fault (prim Boolean)) ≡ true
 unfolding type_fault first_deep first_fault failing
 boolean_clear = refl
 
-at_valid : (ts : Declared) (at : ℕ) → all_valid ts ≡ true → is_clear (type_fault (tree_at ts at)) ≡ true
+pub at_valid : (ts : Declared) (at : ℕ) → all_valid ts ≡ true → is_clear (type_fault (tree_at ts at)) ≡ true
 at_valid [] at valid = boolean_clear
 at_valid (d ∷ ts) zero valid = (and_parts _ _ valid).0
 at_valid (d ∷ ts) (suc at) valid = at_valid ts at (and_parts _ _ valid).1
 
-behind : (ts : Declared) (base : Option ℕ) (own : ListedMembers) → all_valid ts ≡ true → members_behind (count_of (last_base (bases_before ts base))) (members_of (members_before ts base ++ own)) ≡ members_of own
+pub behind : (ts : Declared) (base : Option ℕ) (own : ListedMembers) → all_valid ts ≡ true → members_behind (count_of (last_base (bases_before ts base))) (members_of (members_before ts base ++ own)) ≡ members_of own
 behind ts None own valid = refl
 behind ts (Some at) own valid = behind_base (tree_at ts at) own (at_valid ts at valid)
 

@@ -32,8 +32,7 @@ use Rattle.idl_types.proofs.Wholes.{whole_prim, whole_str, whole_seq, whole_arra
 use Rattle.idl_types.specs.Definitions.{ListedMembers, listed, defined, bases_before, members_on, members_before, member_whole, case_whole}
 use Rattle.idl_types.specs.Kept.{is_clear, all_valid}
 use Rattle.xt_idl.specs.Measures.{measured, is_within, use_keeps, use_light, map_keeps, parts_keep}
-use Rattle.xt_idl.specs.Light.{light}
-use Rattle.xt_idl.proofs.Lightened.{failing_light}
+use Rattle.xt_idl.specs.Light.{keys_keyable}
 
 none_is : (o : Option (ℕ × List Step)) → is_clear o ≡ true → o ≡ None
 none_is None e = refl
@@ -241,16 +240,17 @@ within n = grind (arith, tests)
 no_fault_yet : (small : Bool) (o : Option (List Step)) (rest : Option (ℕ × List Step)) → o ≡ None → small ≡ true → rest ≡ None → or_else (option_map (λ p. (15, p)) o) (or_else (cond small None (Some (16, []))) rest) ≡ None
 no_fault_yet small o rest p q r = rw (p, q, r) refl
 
-valid_type : (t : Tree) → is_within (measured t) ≡ true → fault_inside t ≡ None → failing (light t) ≡ None → type_fault t ≡ None
+valid_type : (t : Tree) → is_within (measured t) ≡ true → fault_inside t ≡ None → (keys_keyable t ≡ true → failing t ≡ None) → type_fault t ≡ None
 unfolding type_fault
 valid_type t in_limits inside node =
     let parts = and_parts _ _ in_limits in
     let first = and_parts _ _ parts.0 in
     let second = and_parts _ _ first.1 in
-    let own : failing t ≡ None = sym (failing_light t parts.1) ∙ node in
+    let own : failing t ≡ None = node parts.1 in
     let clear : first_fault t ≡ None = fault_is t ∙ rw (own, inside) refl in
     let small : is_small t ≡ true = rw (sym (within (nodes t)) ∙ second.0, sym (within (weight (shape t))) ∙ second.1) refl in
     no_fault_yet (is_small t) (first_deep 16 t) (first_fault t) (flat t 16 (low_depth (depth t) first.0)) small clear
 
-pub valid_by : (ts : Declared) (name : Text) (d : Definition) → all_valid ts ≡ true → is_within (measured (defined ts name d)) ≡ true → parts_keep ts d ≡ true → failing (light (defined ts name d)) ≡ None → type_fault (defined ts name d) ≡ None
+pub valid_by : (ts : Declared) (name : Text) (d : Definition) → all_valid ts ≡ true → is_within (measured (defined ts name d)) ≡ true → parts_keep ts d ≡ true → (keys_keyable (defined ts name d) ≡ true → failing (defined ts name d) ≡ None)
+    → type_fault (defined ts name d) ≡ None
 valid_by ts name d valid in_limits each node = valid_type (defined ts name d) in_limits (parts_inside ts name d valid each) node

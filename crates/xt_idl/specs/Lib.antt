@@ -1,6 +1,8 @@
 pub mod Leading
 pub mod Measures
 pub mod Light
+pub mod Numbers
+pub mod Kept
 pub mod Outlines
 pub mod Standing
 pub mod Whole

@@ -1,18 +1,24 @@
 //! Whether a definition is valid, where the types that were declared before are. What it uses of them is told by their measures.
-ghost use Rattle.std.specs.Prelude.{◌≡◌, true, None, IfOk};
+ghost use Rattle.std.specs.Prelude.{◌≡◌, ◌≤◌, true, Some, None, IfOk, length};
 ghost use Rattle.xt_shapes.specs.Lists.{all};
+ghost use Rattle.node_rules.specs.Names.{scope_fits};
 ghost use Rattle.node_rules.specs.Table.{failing};
 ghost use Rattle.type_rules.specs.Valid.{type_fault};
-ghost use Rattle.idl_types.specs.Definitions.{declared, defined};
-ghost use Rattle.xt_idl.specs.Light.{light};
+ghost use Rattle.idl_types.specs.Definitions.{declared, defined, bases_before};
+ghost use Rattle.xt_idl.specs.Light.{keys_keyable};
+ghost use Rattle.xt_idl.specs.Numbers as numbers;
 ghost use Rattle.xt_idl.specs.Measures as spec;
 
+use crate::known::Known;
 use crate::light::light_type;
-use crate::measures::{Known, Measure, measure_use};
-use idl_types::{Declaration, Definition, Used, UsedCase, UsedMember};
-use node_rules::{dims_fit, failing_rule};
+use crate::measures::{Measure, measure_use};
+use idl_types::{
+    Declaration, Definition, StructDefinition, Used, UsedCase, UsedMember, declaration_at,
+};
+use node_rules::{dims_fit, failing_rule, is_scoped, name_fits};
 use std::alloc::Global;
 use xt_lists::{OutOfMemory, Text};
+use xt_shapes::Try;
 
 /// Whether an element, key or value of a collection may weigh so much.
 #[tactic(auto, using(node_rules::proofs::Limits::light_test), unfolding(crate::specs::Measures::use_light))]
@@ -93,22 +99,88 @@ fn is_within(measure: &Measure) -> bool
         && measure.members.keys_keyable
 }
 
-/// Whether no rule is broken at the node of a definition, but whether keys may have their types.
-fn node_fits(
-    alloc: Global,
+fn member_fits(member: &UsedMember) -> bool
+    ensures { result ≡ numbers.member_fits member.now }
+{
+    name_fits(&member.name) && member.id < 0x0fff_ffff && (!member.key || member.tc == Try::Discard)
+}
+
+fn each_fits(members: &[UsedMember]) -> bool
+    ensures { result ≡ all numbers.member_fits members.now }
+{
+    for member in members {
+        if !member_fits(member) {
+            return false;
+        }
+    }
+    true
+}
+
+/// How many bases come before a structure that has this one.
+fn count_bases(types: &[Declaration], base: Option<usize>) -> usize
+    ensures count { result ≡ length (bases_before (declared types.now) base) }
+    ensures bound { result ≤ length types.now }
+{
+    let Some(at) = base else {
+        return 0;
+    };
+    let Some(declaration) = declaration_at(types, at) else {
+        return 0;
+    };
+    match &declaration.definition {
+        Definition::Struct(kind) => 1 + count_bases(&types[..at], kind.base),
+        Definition::Enum(_) | Definition::Mask(_) | Definition::Union(_) | Definition::Alias(_) =>
+            0,
+    }
+}
+
+fn is_named(name: &Text) -> bool
+    ensures { result ≡ scope_fits (Some name.now) }
+{
+    name.len() <= 255 && is_scoped(name.octets())
+}
+
+/// Whether a structure keeps the rules at its node, but that its keys may have their types, where its base keeps them and it is told whether
+/// its members' numbers are apart.
+#[tactic(auto, unfolding(crate::specs::Numbers::structure_keeps))]
+fn structure_fits(
     types: &[Declaration],
     name: &Text,
-    definition: &Definition,
-) -> Result<bool, OutOfMemory>
-    ensures { IfOk result (λ fits. fits ≡ true → failing (light (defined (declared types.now) name.now definition.now)) ≡ None) }
+    kind: &StructDefinition,
+    are_apart: bool,
+) -> bool
+    requires { are_apart ≡ numbers.are_apart (declared types.now) (Definition.Struct kind.now) }
+    ensures { result ≡ numbers.structure_keeps (declared types.now) name.now kind.now }
 {
-    match light_type(alloc, types, name, definition)? {
+    are_apart
+        && is_named(name)
+        && kind.members.len() > 0
+        && count_bases(types, kind.base) <= 15
+        && each_fits(kind.members.as_slice())
+}
+
+/// Whether no rule is broken at the node of a definition, but whether keys may have their types.
+#[tactic(auto, using(crate::proofs::Lightened::failing_light, crate::proofs::StructureClear::structure_clear))]
+fn node_fits(
+    alloc: Global,
+    known: &Known<'_>,
+    name: &Text,
+    definition: &Definition,
+    are_apart: bool,
+) -> Result<bool, OutOfMemory>
+    requires { are_apart ≡ numbers.are_apart (declared known.now.types.now) definition.now }
+    ensures { let t = defined (declared known.now.types.now) name.now definition.now in IfOk result (λ fits. fits ≡ true → keys_keyable t ≡ true → failing t ≡ None) }
+{
+    if let Definition::Struct(kind) = definition {
+        return Ok(structure_fits(known.types, name, kind, are_apart));
+    }
+    match light_type(alloc, known.types, name, definition)? {
         Some(ty) => Ok(failing_rule(&ty).is_none()),
         None => Ok(false),
     }
 }
 
-/// Whether a definition of this measure is found to be valid.
+/// Whether a definition of this measure is found to be valid, where it is told whether its members' numbers are apart.
 #[tactic(auto, using(crate::proofs::ValidBy::valid_by))]
 pub(crate) fn is_valid(
     alloc: Global,
@@ -116,12 +188,14 @@ pub(crate) fn is_valid(
     measure: &Measure,
     name: &Text,
     definition: &Definition,
+    are_apart: bool,
 ) -> Result<bool, OutOfMemory>
-    requires { measure.now ≡ spec.measured (defined (declared known.now.types.now) name.now definition.now) }
+    requires measure { measure.now ≡ spec.measured (defined (declared known.now.types.now) name.now definition.now) }
+    requires apart { are_apart ≡ numbers.are_apart (declared known.now.types.now) definition.now }
     ensures { IfOk result (λ valid. valid ≡ true → type_fault (defined (declared known.now.types.now) name.now definition.now) ≡ None) }
 {
     if is_within(measure) && parts_fit(known, definition) {
-        node_fits(alloc, known.types, name, definition)
+        node_fits(alloc, known, name, definition, are_apart)
     } else {
         Ok(false)
     }

@@ -3,9 +3,11 @@
 #![tactic(auto)]
 
 mod fitting;
+mod known;
 mod leading;
 mod light;
 mod measures;
+mod numbers;
 mod outlines;
 mod reading;
 mod standing;

@@ -5,12 +5,10 @@ ghost use Rattle.type_trees.specs.Trees as trees;
 ghost use Rattle.type_trees.specs.View.{members_of, cases_of};
 ghost use Rattle.idl_types.specs.Uses.{tree_at, whole};
 ghost use Rattle.idl_types.specs.Definitions.{declared, defined, member_whole, case_whole, members_before};
-ghost use Rattle.idl_types.specs.Kept.{all_valid};
 ghost use Rattle.xt_idl.specs.Measures as spec;
 
-use idl_types::{
-    Declaration, Definition, StructDefinition, UnionDefinition, Used, UsedCase, UsedMember,
-};
+use crate::known::Known;
+use idl_types::{Definition, StructDefinition, UnionDefinition, Used, UsedCase, UsedMember};
 use node_rules::is_map_key;
 use type_trees::XType;
 use type_trees::sizes::{TOO_MANY, elements_of};
@@ -56,15 +54,6 @@ pub(crate) struct Measure {
     pub(crate) is_map_key: bool,
     /// Of a structure's members; of none for another type.
     pub(crate) members: MembersMeasure,
-}
-
-/// The types that were declared so far, each valid, and their measures.
-#[derive(Clone, Copy)]
-pub(crate) struct Known<'a> {
-    pub(crate) types: &'a [Declaration],
-    pub(crate) measures: &'a [Measure],
-    ghost own: { measures.now ≡ spec.all_measured (declared types.now) },
-    ghost valid: { all_valid (declared types.now) ≡ true },
 }
 
 fn deep(depth: u64) -> u64

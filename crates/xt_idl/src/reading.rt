@@ -7,13 +7,17 @@ ghost use Rattle.idl_types.specs.State.{declared};
 ghost use Rattle.idl_types.specs.Definitions.{declared as declarations_view, defined, fits};
 ghost use Rattle.idl_types.specs.Views.{state};
 ghost use Rattle.idl_definitions.specs.Views.{made};
-ghost use Rattle.xt_idl.specs.Measures.{all_measured, measured};
+ghost use Rattle.xt_idl.specs.Kept.{IsKept};
+ghost use Rattle.xt_idl.specs.Measures.{measured};
+ghost use Rattle.xt_idl.specs.Numbers.{are_apart as numbers_apart};
 ghost use Rattle.xt_idl.specs.Whole as spec;
 ghost use Rattle.xt_idl.specs.Whole.{Leads, Changes, Declares};
 
 use crate::fitting::is_valid;
+use crate::known::{Kept, Known};
 use crate::leading::leading_notes;
-use crate::measures::{Known, Measure, measure_definition};
+use crate::measures::{Measure, measure_definition};
+use crate::numbers::definition_sets;
 use crate::trees::{defined_type, trees_of};
 use idl_definitions::{
     Made, bitmask_def, enum_def, settings_of, struct_def, typedef_def, union_def,
@@ -92,9 +96,11 @@ fn fault_of(
     alloc: Global,
     known: &Known<'_>,
     measure: &Measure,
+    are_apart: bool,
     found: &Made<'_>,
 ) -> Result<Option<TypeFault>, OutOfMemory>
-    requires { measure.now ≡ measured (defined (declarations_view known.now.types.now) found.now.full found.now.definition) }
+    requires measure { measure.now ≡ measured (defined (declarations_view known.now.types.now) found.now.full found.now.definition) }
+    requires apart { are_apart ≡ numbers_apart (declarations_view known.now.types.now) found.now.definition }
     ensures fault { IfOk result (λ f. fault_view f ≡ spec.fault_of (made (declarations_view known.now.types.now) found.now)) }
     ensures valid { IfOk result (λ f. IfNone f (type_fault (defined (declarations_view known.now.types.now) found.now.full found.now.definition) ≡ None)) }
     ensures fits { IfOk result (λ f. IfNone f (found.now.fits ≡ true)) }
@@ -102,7 +108,14 @@ fn fault_of(
     if !found.fits {
         return Ok(Some(fault_here(17)));
     }
-    if is_valid(alloc, known, measure, &found.full, &found.definition)? {
+    if is_valid(
+        alloc,
+        known,
+        measure,
+        &found.full,
+        &found.definition,
+        are_apart,
+    )? {
         return Ok(None);
     }
     let ty = tree_of(alloc, known.types, &found.full, &found.definition)?;
@@ -110,29 +123,27 @@ fn fault_of(
 }
 
 /// Declares a type, where it is valid.
-#[tactic(auto, using(std::proofs::lemmas::List::map_push))]
-fn declare<'a>(
-    reader: &mut Reader<'a>,
-    measures: &mut Row<Measure>,
-    found: Made<'a>,
-) -> Result<(), IdlFault>
+#[tactic(auto, using(crate::proofs::Keeping::kept_more))]
+fn declare<'a>(reader: &mut Reader<'a>, kept: &mut Kept, found: Made<'a>) -> Result<(), IdlFault>
     requires fits { found.fits ≡ true → fits (state reader.old).types found.definition ≡ true }
-    requires same { measures.old ≡ all_measured (state reader.old).types }
-    ensures same { OnOk result (measures.new ≡ all_measured (state reader.new).types) }
+    requires kept { IsKept (state reader.old).types kept.old }
+    ensures kept { OnOk result (IsKept (state reader.new).types kept.new) }
     ensures changes { Changes (spec.valid_or (state reader.old) (made (state reader.old).types found.entry) (spec.fault_of (made (state reader.old).types found.entry))) result (state reader.new) }
 {
     let known = Known {
         types: reader.types(),
-        measures: measures.as_slice(),
+        measures: kept.measures.as_slice(),
+        numbers: kept.numbers.as_slice(),
     };
     let measure = measure_definition(&known, &found.full, &found.definition);
-    if let Some(fault) = fault_of(reader.alloc(), &known, &measure, &found)? {
+    let (numbers, are_apart) = definition_sets(reader.alloc(), &known, &found.definition)?;
+    if let Some(fault) = fault_of(reader.alloc(), &known, &measure, are_apart, &found)? {
         return Err(IdlFault::Invalid {
             at: found.at,
             fault,
         });
     }
-    measures.push(measure)?;
+    kept.push(measure, numbers)?;
     let Made {
         at: _,
         name,
@@ -149,15 +160,15 @@ fn declare<'a>(
 fn typed<'a>(
     tokens: &mut Tokens<'a>,
     reader: &mut Reader<'a>,
-    measures: &mut Row<Measure>,
+    kept: &mut Kept,
     notes: &[Placed],
 ) -> Result<(), IdlFault>
-    requires same { measures.old ≡ all_measured (state reader.old).types }
-    ensures same { OnOk result (measures.new ≡ all_measured (state reader.new).types) }
+    requires kept { IsKept (state reader.old).types kept.old }
+    ensures kept { OnOk result (IsKept (state reader.new).types kept.new) }
     ensures leads { Leads (spec.typed (state reader.old) notes.now tokens.old) result (state reader.new) tokens.new }
 {
     let found = definition(tokens, reader, notes)?;
-    declare(reader, measures, found)
+    declare(reader, kept, found)
 }
 
 /// Opens a module's scope.
@@ -188,12 +199,12 @@ fn module_def<'a>(tokens: &mut Tokens<'a>, reader: &mut Reader<'a>) -> Result<()
 fn definition_or_module<'a>(
     tokens: &mut Tokens<'a>,
     reader: &mut Reader<'a>,
-    measures: &mut Row<Measure>,
+    kept: &mut Kept,
     notes: &[Placed],
     keyword: Option<Keyword>,
 ) -> Result<(), IdlFault>
-    requires same { measures.old ≡ all_measured (state reader.old).types }
-    ensures same { OnOk result (measures.new ≡ all_measured (state reader.new).types) }
+    requires kept { IsKept (state reader.old).types kept.old }
+    ensures kept { OnOk result (IsKept (state reader.new).types kept.new) }
     ensures leads { Leads (spec.definition_or_module (state reader.old) notes.now keyword tokens.old) result (state reader.new) tokens.new }
 {
     match Begins::of(keyword) {
@@ -203,7 +214,7 @@ fn definition_or_module<'a>(
         | Begins::Collection(_)
         | Begins::Outside
         | Begins::Nothing
-        | Begins::NoKeyword => typed(tokens, reader, measures, notes),
+        | Begins::NoKeyword => typed(tokens, reader, kept, notes),
     }
 }
 
@@ -231,10 +242,10 @@ fn may_close(reader: &Reader<'_>) -> bool
 fn item<'a>(
     tokens: &mut Tokens<'a>,
     reader: &mut Reader<'a>,
-    measures: &mut Row<Measure>,
+    kept: &mut Kept,
 ) -> Result<(), IdlFault>
-    requires same { measures.old ≡ all_measured (state reader.old).types }
-    ensures same { OnOk result (measures.new ≡ all_measured (state reader.new).types) }
+    requires kept { IsKept (state reader.old).types kept.old }
+    ensures kept { OnOk result (IsKept (state reader.new).types kept.new) }
     ensures leads { Leads (spec.item (state reader.old) tokens.old) result (state reader.new) tokens.new }
 {
     if may_close(reader) && tokens.sees(b"}") {
@@ -242,7 +253,7 @@ fn item<'a>(
     }
     let notes = leading_notes(tokens, reader.alloc())?;
     let keyword = tokens.keyword();
-    definition_or_module(tokens, reader, measures, notes.as_slice(), keyword)
+    definition_or_module(tokens, reader, kept, notes.as_slice(), keyword)
 }
 
 /// Whether the text ends here, with all modules closed.
@@ -265,18 +276,18 @@ fn at_end(tokens: &Tokens<'_>, reader: &Reader<'_>) -> bool
 fn items<'a>(
     tokens: &mut Tokens<'a>,
     reader: &mut Reader<'a>,
-    measures: &mut Row<Measure>,
+    kept: &mut Kept,
     turns: usize,
 ) -> Result<(), IdlFault>
-    requires same { measures.old ≡ all_measured (state reader.old).types }
-    ensures same { OnOk result (measures.new ≡ all_measured (state reader.new).types) }
+    requires kept { IsKept (state reader.old).types kept.old }
+    ensures kept { OnOk result (IsKept (state reader.new).types kept.new) }
     ensures leads { Leads (spec.items_from turns (state reader.old) tokens.old) result (state reader.new) tokens.new }
 {
     for _turn in 0..turns {
         if at_end(tokens, reader) {
             return Ok(());
         }
-        item(tokens, reader, measures)?;
+        item(tokens, reader, kept)?;
     }
     if at_end(tokens, reader) {
         Ok(())
@@ -298,9 +309,9 @@ pub fn declarations(alloc: Global, text: &[u8]) -> Result<Declarations, IdlFault
     ensures { Declares (spec.idl text.now) declarations_view result }
 {
     let mut reader = Reader::new(alloc);
-    let mut measures = Row::new(alloc);
+    let mut kept = Kept::new(alloc);
     let mut tokens = Tokens::new(text);
-    items(&mut tokens, &mut reader, &mut measures, text.len())?;
+    items(&mut tokens, &mut reader, &mut kept, text.len())?;
     Ok(reader.into_types())
 }
 

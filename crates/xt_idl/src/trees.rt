@@ -79,12 +79,12 @@ pub(crate) fn bitmask(alloc: Global, kind: &MaskType) -> Result<XType, OutOfMemo
 
 /// What a structure's tree has from its base.
 #[derive(Drop)]
-pub(crate) struct Inherited {
-    pub(crate) bases: Row<Base>,
-    pub(crate) members: Row<Member>,
+struct Inherited {
+    bases: Row<Base>,
+    members: Row<Member>,
 }
 
-pub(crate) fn nothing_inherited(alloc: Global) -> Inherited
+fn nothing_inherited(alloc: Global) -> Inherited
     ensures bases { result.bases ≡ [] }
     ensures members { result.members ≡ [] }
 {
@@ -101,7 +101,7 @@ fn count_of(members: &[Member]) -> u32
 }
 
 #[tactic(auto, using(type_trees::proofs::Views::tree_rules, idl_definitions::proofs::MakeSteps::listed_back))]
-pub(crate) fn of_structure(structure: StructType) -> Result<Inherited, OutOfMemory>
+fn of_structure(structure: StructType) -> Result<Inherited, OutOfMemory>
     ensures bases { IfOk result (λ h. h.bases ≡ bases_on (struct_tree structure)) }
     ensures members { IfOk result (λ h. map member_tree h.members ≡ members_on (struct_tree structure)) }
 {
