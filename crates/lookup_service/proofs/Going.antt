@@ -1,6 +1,6 @@
 -- A session, one request after another.
 use Rattle.std.proofs.Common.{◌≡◌, ℕ, suc, ◌+◌, below_more, ◌<◌, List, [], ◌∷◌, ◌++◌, true, false, length, Option, refl, sym, ap, subst, ◌∙◌, append_assoc, append-nil, length-append, arith}
-use Rattle.std.specs.Prelude.{Err}
+use Rattle.std.specs.Prelude.{None, Some, Result, Ok, Err, IfErr}
 use Rattle.std.proofs.lemmas.List.Elements.{All-nil, All-push}
 use Rattle.std.specs.Int.{w32, to_be_bytes}
 use Rattle.std.specs.Io.KnownBytes.{append_known, IsAtEnd}
@@ -20,6 +20,7 @@ use Rattle.lookup_service.specs.declared.ended.Ended.{Ended}
 use Rattle.lookup_service.specs.declared.ended.Ended.TheVariants.{Closed, LinkFault, BadFrame, Limit, OutOfMemory}
 use Rattle.lookup_service.specs.States.{IsStep, Replied}
 use Rattle.lookup_service.specs.Sessions.{IsRequest, AreRequests, IsBadFront, IsPrefix, EndsBy, Sends, AreAsked, GatedOver, end_of}
+use Rattle.lookup_service.specs.Requests.{Asks, IsFromOutside, IsSent, Replies, EndsIn, BreaksOff}
 
 -- one more reply
 replied_more : (name : List ℕ → List ℕ) (s : PassView) (requests replies : List Message) (t u : PassView) (request reply : Message) → Replied name s requests replies t → IsStep name t u request reply → Replied name s (requests ++ request ∷ []) (replies ++ reply ∷ []) u
@@ -93,20 +94,19 @@ module _ (name : List ℕ → List ℕ) (entry now : PassView) (gb gn lb ln tb t
   sent_some some reply prefix = (prefix.0, sent_more g.replies reply ∙ ap (λ o. frames_of g.replies ++ o) prefix.1 ∙ sym (append_assoc (frames_of g.replies) some prefix.0) ∙ ap (λ (o : List ℕ). (o ++ some) ++ prefix.0) (sym g.sends))
 
   -- its reply was sent whole
-  pub going_more : (gx lx ty : Option (List ℕ)) (exit : PassView) (piece : List ℕ) (request reply : Message) → Took gn gx ln lx piece → front piece ≡ framed request [] → piece ≡ frame_of request → is_request request ≡ true → IsStep name now exit request reply
-      → ty ≡ append_known tn (frame_of reply) → Going name entry exit gb gx lb lx tb ty (number + 1) (at + length (frame_of request))
-  going_more gx lx ty exit piece request reply took is spelled asks step gave = record {
+  pub going_more : (asked : ℕ → Type 0) (gx lx ty : Option (List ℕ)) (exit : PassView) (piece : List ℕ) (request : Message) → Took gn gx ln lx piece → Asks piece lx at (Ok request) → Replies asked name now exit request number tn ty → Going name entry exit gb gx lb lx tb ty (number + 1) (at + length (frame_of request))
+  going_more asked gx lx ty exit piece request took is sent = let reply = sent.0 in record {
     octets = g.octets ++ piece;
     sent = g.sent ++ frame_of reply;
     requests = g.requests ++ request ∷ [];
     replies = g.replies ++ reply ∷ [];
     took = took-more gb gn gx lb ln lx g.octets piece g.took took;
-    gave = appended-more tb tn ty g.sent (frame_of reply) g.gave gave;
-    read = more_read piece request is asks;
-    replied = replied_more name entry g.requests g.replies now exit request reply g.replied step;
+    gave = appended-more tb tn ty g.sent (frame_of reply) g.gave sent.1.gave;
+    read = more_read piece request is.0 is.2;
+    replied = replied_more name entry g.requests g.replies now exit request reply g.replied sent.1.step;
     sends = ap (λ o. o ++ frame_of reply) g.sends ∙ sym (sent_more g.replies reply);
     count = omega (arith, length-append g.requests (request ∷ []), g.count);
-    long = omega (arith, length-append g.octets piece, g.long, ap length spelled);
+    long = omega (arith, length-append g.octets piece, g.long, ap length is.1);
   }
 
 -- ---- with its gate
@@ -141,21 +141,13 @@ module _ (asked : ℕ → Type 0) (name : List ℕ → List ℕ) (entry now : Pa
     };
   }
 
-  pub closed : (gx lx : Option (List ℕ)) (piece : List ℕ) → number < 65536 → Took gn gx ln lx piece → piece ≡ [] → IsAtEnd lx → GatedOver asked name entry now gb gx lb lx tb tn Closed
-  closed gx lx piece few took none end = ended gx lx now piece Closed took (grows_not now) (omega (arith, g.count), none, end) g.sends
-
-  pub bad_frame : (gx lx : Option (List ℕ)) (piece : List ℕ) (fault : FrameFault) → number < 65536 → Took gn gx ln lx piece → Answers piece lx (Err fault) → GatedOver asked name entry now gb gx lb lx tb tn (end_of fault at)
-  bad_frame gx lx piece frame.LinkFault few took is = ended gx lx now piece LinkFault took (grows_not now) (omega (arith, g.count)) (all_sent name entry now gb gn lb ln tb tn number at g)
-  bad_frame gx lx piece frame.OutOfMemory few took is = ended gx lx now piece OutOfMemory took (grows_not now) (omega (arith, g.count)) (all_sent name entry now gb gn lb ln tb tn number at g)
-  bad_frame gx lx piece frame.Truncated few took is = ended gx lx now piece (BadFrame at) took (grows_not now) (omega (arith, g.count), g.long, subst (λ f. IsBadFront piece f (IsAtEnd lx)) (sym is.0) (is.1, tt)) g.sends
-  bad_frame gx lx piece (frame.TooLong n) few took is = ended gx lx now piece (BadFrame at) took (grows_not now) (omega (arith, g.count), g.long, subst (λ f. IsBadFront piece f (IsAtEnd lx)) (sym is.0) (tt, is.1)) g.sends
-  bad_frame gx lx piece (frame.BadMessage place) few took is = ended gx lx now piece (BadFrame at) took (grows_not now) (omega (arith, g.count), g.long, subst (λ f. IsBadFront piece f (IsAtEnd lx)) (sym is.0) (tt, is.1)) g.sends
-
-  pub no_request : (gx lx : Option (List ℕ)) (piece : List ℕ) (message : Message) → number < 65536 → Took gn gx ln lx piece → front piece ≡ framed message [] → is_request message ≡ false → GatedOver asked name entry now gb gx lb lx tb tn (BadFrame at)
-  no_request gx lx piece message few took is isnt = ended gx lx now piece (BadFrame at) took (grows_not now) (omega (arith, g.count), g.long, subst (λ f. IsBadFront piece f (IsAtEnd lx)) (sym is) (isnt, refl)) g.sends
-
-  pub no_memory : (gx lx : Option (List ℕ)) (exit : PassView) (piece : List ℕ) → number < 65536 → Took gn gx ln lx piece → Grows now exit → GatedOver asked name entry exit gb gx lb lx tb tn OutOfMemory
-  no_memory gx lx exit piece few took grows = ended gx lx exit piece OutOfMemory took grows (omega (arith, g.count)) (all_sent name entry now gb gn lb ln tb tn number at g)
+  -- it ends where no request was read
+  pub ends_ahead : (gx lx : Option (List ℕ)) (piece : List ℕ) (end : Ended) → number < 65536 → Took gn gx ln lx piece → Asks piece lx at (Err end) → GatedOver asked name entry now gb gx lb lx tb tn end
+  ends_ahead gx lx piece Closed few took is = ended gx lx now piece Closed took (grows_not now) (omega (arith, g.count), is.0, is.1) g.sends
+  ends_ahead gx lx piece LinkFault few took is = ended gx lx now piece LinkFault took (grows_not now) (omega (arith, g.count)) (all_sent name entry now gb gn lb ln tb tn number at g)
+  ends_ahead gx lx piece (BadFrame place) few took is = ended gx lx now piece (BadFrame place) took (grows_not now) (omega (arith, g.count), is.0 ∙ g.long, is.1) g.sends
+  ends_ahead gx lx piece Limit few took is = absurd is
+  ends_ahead gx lx piece OutOfMemory few took is = ended gx lx now piece OutOfMemory took (grows_not now) (omega (arith, g.count)) (all_sent name entry now gb gn lb ln tb tn number at g)
 
   pub limit : number ≡ 65536 → GatedOver asked name entry now gb gn lb ln tb tn Limit
   limit all = record {
@@ -187,15 +179,15 @@ module _ (asked : ℕ → Type 0) (name : List ℕ → List ℕ) (entry now : Pa
       subst (λ (n : ℕ). AreAsked asked n) long (below_more asked number each also)
 
   -- its reply was sent in part
-  cut_at : (gx lx ty : Option (List ℕ)) (exit : PassView) (piece some : List ℕ) (request reply : Message) → Took gn gx ln lx piece → front piece ≡ framed request [] → is_request request ≡ true → IsStep name now exit request reply → ty ≡ append_known tn some
-      → asked number → (end : Ended) → EndsBy end (length (g.requests ++ request ∷ [])) (length (g.octets ++ piece)) [] lx → Sends end (g.sent ++ some) (frames_of (g.replies ++ reply ∷ [])) → GatedOver asked name entry exit gb gx lb lx tb ty end
-  cut_at gx lx ty exit piece some request reply took is asks step gave also end ends sends = record {
-    each = one_more_asked also reply;
+  cut_at : (gx lx ty : Option (List ℕ)) (exit : PassView) (piece some : List ℕ) (request reply : Message) → Took gn gx ln lx piece → front piece ≡ framed request [] → is_request request ≡ true → IsSent asked name now exit request number tn ty reply some
+      → (end : Ended) → EndsBy end (length (g.requests ++ request ∷ [])) (length (g.octets ++ piece)) [] lx → Sends end (g.sent ++ some) (frames_of (g.replies ++ reply ∷ [])) → GatedOver asked name entry exit gb gx lb lx tb ty end
+  cut_at gx lx ty exit piece some request reply took is asks sent end ends sends = record {
+    each = one_more_asked sent.call reply;
     over = record {
       octets = g.octets ++ piece;
       sent = g.sent ++ some;
       took = took-more gb gn gx lb ln lx g.octets piece g.took took;
-      gave = appended-more tb tn ty g.sent some g.gave gave;
+      gave = appended-more tb tn ty g.sent some g.gave sent.gave;
       session = record {
         requests = g.requests ++ request ∷ [];
         replies = g.replies ++ reply ∷ [];
@@ -204,7 +196,7 @@ module _ (asked : ℕ → Type 0) (name : List ℕ → List ℕ) (entry now : Pa
         behind = [];
         cut = sym (append-nil (g.octets ++ piece));
         read = more_read name entry now gb gn lb ln tb tn number at g piece request is asks;
-        replied = replied_more name entry g.requests g.replies now exit request reply g.replied step;
+        replied = replied_more name entry g.requests g.replies now exit request reply g.replied sent.step;
         later = grows_not exit;
         ends = ends;
         sends = sends;
@@ -212,13 +204,45 @@ module _ (asked : ℕ → Type 0) (name : List ℕ → List ℕ) (entry now : Pa
     };
   }
 
-  pub cut_reply : (gx lx ty : Option (List ℕ)) (exit : PassView) (piece some : List ℕ) (request reply : Message) (fault : FrameFault) (place : ℕ) → number < 65536 → Took gn gx ln lx piece → front piece ≡ framed request [] → is_request request ≡ true → IsStep name now exit request reply
-      → IsPrefix some (frame_of reply) → ty ≡ append_known tn some → IsOutside fault → asked number → GatedOver asked name entry exit gb gx lb lx tb ty (end_of fault place)
-  cut_reply gx lx ty exit piece some request reply frame.LinkFault place few took is asks step prefix gave outside also = cut_at gx lx ty exit piece some request reply took is asks step gave also LinkFault (omega (arith, length-append g.requests (request ∷ []), g.count)) (sent_some name entry now gb gn lb ln tb tn number at g some reply prefix)
-  cut_reply gx lx ty exit piece some request reply frame.OutOfMemory place few took is asks step prefix gave outside also = cut_at gx lx ty exit piece some request reply took is asks step gave also OutOfMemory (omega (arith, length-append g.requests (request ∷ []), g.count)) (sent_some name entry now gb gn lb ln tb tn number at g some reply prefix)
-  cut_reply gx lx ty exit piece some request reply frame.Truncated place few took is asks step prefix gave outside also = absurd outside
-  cut_reply gx lx ty exit piece some request reply (frame.TooLong n) place few took is asks step prefix gave outside also = absurd outside
-  cut_reply gx lx ty exit piece some request reply (frame.BadMessage at) place few took is asks step prefix gave outside also = absurd outside
+  ends_in : (gx lx ty : Option (List ℕ)) (exit : PassView) (piece : List ℕ) (request : Message) → number < 65536 → Took gn gx ln lx piece → front piece ≡ framed request [] → is_request request ≡ true → Grows now exit → (end : Ended) (reply : Option Message) → EndsIn asked name now exit request number tn ty end reply
+      → GatedOver asked name entry exit gb gx lb lx tb ty end
+  ends_in gx lx ty exit piece request few took is asks grows end None left = subst (λ (t : Option (List ℕ)). GatedOver asked name entry exit gb gx lb lx tb t end) (sym left.1) (subst (GatedOver asked name entry exit gb gx lb lx tb tn) (sym left.0) (ended gx lx exit piece OutOfMemory took grows (omega (arith, g.count)) (all_sent name entry now gb gn lb ln tb tn number at g)))
+  ends_in gx lx ty exit piece request few took is asks grows LinkFault (Some reply) left = cut_at gx lx ty exit piece left.1 request reply took is asks left.3 LinkFault (omega (arith, length-append g.requests (request ∷ []), g.count)) (sent_some name entry now gb gn lb ln tb tn number at g left.1 reply left.2)
+  ends_in gx lx ty exit piece request few took is asks grows OutOfMemory (Some reply) left = cut_at gx lx ty exit piece left.1 request reply took is asks left.3 OutOfMemory (omega (arith, length-append g.requests (request ∷ []), g.count)) (sent_some name entry now gb gn lb ln tb tn number at g left.1 reply left.2)
+  ends_in gx lx ty exit piece request few took is asks grows Closed (Some reply) left = absurd left.0
+  ends_in gx lx ty exit piece request few took is asks grows (BadFrame place) (Some reply) left = absurd left.0
+  ends_in gx lx ty exit piece request few took is asks grows Limit (Some reply) left = absurd left.0
+
+  -- it ends where a request was read and isn't answered
+  pub breaks_off : (gx lx ty : Option (List ℕ)) (exit : PassView) (piece : List ℕ) (request : Message) (end : Ended) → number < 65536 → Took gn gx ln lx piece → Asks piece lx at (Ok request) → Grows now exit → BreaksOff asked name now exit request number tn ty end → GatedOver asked name entry exit gb gx lb lx tb ty end
+  breaks_off gx lx ty exit piece request end few took is grows left = ends_in gx lx ty exit piece request few took is.0 is.2 grows end left.0 left.1
+
+-- ---- what is read
+
+pub asks_fault : (octets : List ℕ) (left : Option (List ℕ)) (at : ℕ) (fault : FrameFault) → Answers octets left (Err fault) → Asks octets left at (Err (end_of fault at))
+asks_fault octets left at frame.LinkFault is = tt
+asks_fault octets left at frame.OutOfMemory is = tt
+asks_fault octets left at frame.Truncated is = (refl, subst (λ f. IsBadFront octets f (IsAtEnd left)) (sym is.0) (is.1, tt))
+asks_fault octets left at (frame.TooLong n) is = (refl, subst (λ f. IsBadFront octets f (IsAtEnd left)) (sym is.0) (tt, is.1))
+asks_fault octets left at (frame.BadMessage place) is = (refl, subst (λ f. IsBadFront octets f (IsAtEnd left)) (sym is.0) (tt, is.1))
+
+pub asks_not : (octets : List ℕ) (left : Option (List ℕ)) (at : ℕ) (message : Message) → front octets ≡ framed message [] → is_request message ≡ false → Asks octets left at (Err (BadFrame at))
+asks_not octets left at message is isnt = (refl, subst (λ f. IsBadFront octets f (IsAtEnd left)) (sym is) (isnt, refl))
+
+-- ---- how a fault ends it
+
+pub from_outside : (fault : FrameFault) (at : ℕ) → IsOutside fault → IsFromOutside (end_of fault at)
+from_outside frame.LinkFault at is = tt
+from_outside frame.OutOfMemory at is = tt
+from_outside frame.Truncated at is = absurd is
+from_outside (frame.TooLong n) at is = absurd is
+from_outside (frame.BadMessage place) at is = absurd is
+
+-- some octets of the reply were sent
+pub breaks_in : {T : Type 0} (asked : ℕ → Type 0) (name : List ℕ → List ℕ) (now exit : PassView) (request reply : Message) (number : ℕ) (tn ty : Option (List ℕ)) (result : Result T Ended) → IsStep name now exit request reply → asked number → IfErr result IsFromOutside
+    → IfErr result (λ _. (some : List ℕ) × IsPrefix some (frame_of reply) × (ty ≡ append_known tn some)) → IfErr result (BreaksOff asked name now exit request number tn ty)
+breaks_in asked name now exit request reply number tn ty (Ok u) step call outside sent = tt
+breaks_in asked name now exit request reply number tn ty (Err end) step call outside sent = (Some reply, (outside, sent.0, sent.1, record { step = step; call = call; gave = sent.2 }))
 
 pub gated_as : (asked : ℕ → Type 0) (name : List ℕ → List ℕ) (entry exit : PassView) (gb gx gy lb lx ly tb tx ty : Option (List ℕ)) (end fin : Ended) → gy ≡ gx → ly ≡ lx → ty ≡ tx → fin ≡ end → GatedOver asked name entry exit gb gx lb lx tb tx end → GatedOver asked name entry exit gb gy lb ly tb ty fin
 gated_as asked name entry exit gb gx gy lb lx ly tb tx ty end fin g l t e s =

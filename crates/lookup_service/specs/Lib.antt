@@ -4,3 +4,4 @@ pub mod link
 pub mod workers
 pub mod States
 pub mod Sessions
+pub mod Requests

@@ -1,12 +1,12 @@
 //! The session over a link.
-ghost use Rattle.std.specs.Prelude.{◌≡◌, ◌≤◌, ◌++◌, true, ℕ, List, length, IfOk, IfErr};
+ghost use Rattle.std.specs.Prelude.{◌≡◌, ◌≤◌, true, ℕ, List, length, IfOk, IfErr};
 ghost use Rattle.std.specs.Io.KnownBytes.{append_known};
-ghost use Rattle.type_lookup.specs.Causes.{HasFrameCause, IsOutside};
 ghost use Rattle.type_lookup.specs.messages.Spelling.{HasFrame, frame_of};
 ghost use Rattle.type_registry.specs.Passed.{Grows};
 ghost use Rattle.lookup_service.specs.replies.Replies.{is_request as is_request_message};
 ghost use Rattle.lookup_service.specs.States.{IsStep};
-ghost use Rattle.lookup_service.specs.Sessions.{SessionOver, GatedOver, HasSessionCause, end_of};
+ghost use Rattle.lookup_service.specs.Sessions.{SessionOver, GatedOver, HasSessionCause, IsPrefix, end_of};
+ghost use Rattle.lookup_service.specs.Requests.{ReadsRequest, Replies, BreaksOff, IsFromOutside};
 
 use crate::ended::Ended;
 use crate::gate::Gate;
@@ -48,24 +48,66 @@ pub fn session<'r, N: Naming, L: Link, G: Gate>(
 {
     let mut at = 0u64;
     'requests: for number in 0..MOST_REQUESTS {
-        let request = match read_frame(alloc, link) {
-            Ok(Some(request)) => request,
-            Ok(None) => return Ended::Closed,
-            Err(fault) => return ended_by(fault, at),
+        let request = match next_request(alloc, link, at) {
+            Ok(request) => request,
+            Err(ended) => return ended,
         };
-        if !is_request(&request) {
-            return Ended::BadFrame { at };
-        }
-        let Ok(reply) = reply_to(alloc, registry, pass, &request) else {
-            return Ended::OutOfMemory;
-        };
-        gate.before_reply(number);
-        if let Err(fault) = send(alloc, link, &reply, gate, number) {
-            return ended_by(fault, at);
+        if let Err(ended) = answer_request(alloc, registry, pass, link, gate, number, &request) {
+            return ended;
         }
         at += frame_size(&request);
     }
     Ended::Limit
+}
+
+/// The next request, whose frame begins at this octet of the session's input; or how the session ends there.
+fn next_request<L: Link>(alloc: Global, link: &mut L, at: u64) -> Result<Message, Ended>
+    ensures octets { ReadsRequest (L.got link.old) (L.got link.new) (L.left link.old) (L.left link.new) at result }
+    ensures frame { IfOk result HasFrame }
+    ensures taken { L.taken link.new ≡ L.taken link.old }
+    ensures later { L.faults link.old ≤ L.faults link.new }
+    ensures cause { IfErr result (HasSessionCause (L.faults link.old) (L.faults link.new)) }
+    ensures same { L.name link.new ≡ L.name link.old }
+{
+    let request = match read_frame(alloc, link) {
+        Ok(Some(request)) => request,
+        Ok(None) => return Err(Ended::Closed),
+        Err(fault) => return Err(ended_by(fault, at)),
+    };
+    if is_request(&request) {
+        Ok(request)
+    } else {
+        Err(Ended::BadFrame { at })
+    }
+}
+
+/// Answers a request, the gate being asked for its number before the reply is sent; or says how the session ends.
+fn answer_request<'r, N: Naming, L: Link, G: Gate>(
+    alloc: Global,
+    registry: &'r Registry<N>,
+    pass: &mut Pass<'r, N>,
+    link: &mut L,
+    gate: &G,
+    number: u64,
+    request: &Message,
+) -> Result<(), Ended>
+    requires registry { pass.old.registry ≡ registry.now }
+    requires request { is_request_message request.now ≡ true }
+    requires frame { HasFrame request.now }
+    ensures whole { IfOk result (λ _. Replies (G.asked gate.now) N.name pass.old pass.new request.now number (L.taken link.old) (L.taken link.new)) }
+    ensures broken { IfErr result (BreaksOff (G.asked gate.now) N.name pass.old pass.new request.now number (L.taken link.old) (L.taken link.new)) }
+    ensures grows { Grows pass.old pass.new }
+    ensures got { L.got link.new ≡ L.got link.old }
+    ensures left { L.left link.new ≡ L.left link.old }
+    ensures later { L.faults link.old ≤ L.faults link.new }
+    ensures cause { IfErr result (HasSessionCause (L.faults link.old) (L.faults link.new)) }
+    ensures same { L.name link.new ≡ L.name link.old }
+{
+    let Ok(reply) = reply_to(alloc, registry, pass, request) else {
+        return Err(Ended::OutOfMemory);
+    };
+    gate.before_reply(number);
+    send(alloc, link, &reply, gate, number)
 }
 
 /// The reply to a request, by what the pass knows then.
@@ -93,18 +135,22 @@ fn send<L: Link, G: Gate>(
     reply: &Message,
     _gate: &G,
     _number: u64,
-) -> Result<(), FrameFault>
+) -> Result<(), Ended>
     requires asked { G.asked _gate.now _number }
     requires frame { HasFrame reply.now }
     ensures whole { IfOk result (λ _. L.taken link.new ≡ append_known (L.taken link.old) (frame_of reply.now)) }
-    ensures prefix { IfErr result (λ _. (some rest : List ℕ) × (frame_of reply.now ≡ some ++ rest) × (L.taken link.new ≡ append_known (L.taken link.old) some)) }
-    ensures fault { IfErr result IsOutside }
+    ensures prefix { IfErr result (λ _. (some : List ℕ) × IsPrefix some (frame_of reply.now) × (L.taken link.new ≡ append_known (L.taken link.old) some)) }
+    ensures outside { IfErr result IsFromOutside }
     ensures got { L.got link.new ≡ L.got link.old }
     ensures left { L.left link.new ≡ L.left link.old }
-    ensures cause { HasFrameCause (L.faults link.old) (L.faults link.new) result }
+    ensures later { L.faults link.old ≤ L.faults link.new }
+    ensures cause { IfErr result (HasSessionCause (L.faults link.old) (L.faults link.new)) }
     ensures same { L.name link.new ≡ L.name link.old }
 {
-    write_frame(alloc, link, reply)
+    match write_frame(alloc, link, reply) {
+        Ok(()) => Ok(()),
+        Err(fault) => Err(ended_by(fault, 0)),
+    }
 }
 
 /// How a session ends by the fault of a frame that begins at this octet.

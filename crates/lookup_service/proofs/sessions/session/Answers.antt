@@ -1,8 +1,7 @@
-use Rattle.std.proofs.Common.{◌≡◌, ◌∙◌, ◌+◌, sym, ap, refl, arith, below_none, below_more}
-use Rattle.std.specs.Io.KnownBytes.{append_known}
-use Rattle.type_lookup.specs.messages.Spelling.{frame_of}
+use Rattle.std.proofs.Common.{◌≡◌, ◌∙◌, ◌+◌, ℕ, List, Option, ap, subst, refl, arith, below_none, below_more}
+use Rattle.lookup_service.specs.Requests.{Replies, BreaksOff}
 use Rattle.lookup_service.proofs.OfReplies.Putting.{grows_then, grows_not}
-use Rattle.lookup_service.proofs.Going.{going_none, closed, bad_frame, no_request, no_memory, limit, cut_reply, going_more, gated_as, going_as}
+use Rattle.lookup_service.proofs.Going.{going_none, ends_ahead, breaks_off, limit, going_more, gated_as, going_as}
 use Rattle.lookup_service.proofs.sessions.session.Goals as goal
 
 pub requests-init : goal.requests-init
@@ -19,50 +18,20 @@ requests-init g c = record {
 pub returns-in-Err-clause-gate : goal.returns-in-Err-clause-gate
 returns-in-Err-clause-gate g c =
     let i = c.requests.invariant in let r = c.in-Err.ensures in let o = r.octets in
-    gated_as _ _ _ _ _ _ _ _ _ _ _ _ _ _ _ refl refl r.taken c.ended_by.ensures (bad_frame _ _ _ _ _ _ _ _ _ _ _ _ i.going i.asked _ _ o.0 c.in-Err.fault c.requests-test.true o.1 o.2)
+    gated_as _ _ _ _ _ _ _ _ _ _ _ _ _ _ _ refl refl r.taken refl (ends_ahead _ _ _ _ _ _ _ _ _ _ _ _ i.going i.asked _ _ o.0 c.in-Err.ended c.requests-test.true o.1 o.2)
 
 pub returns-in-Err-clause-session : goal.returns-in-Err-clause-session
 returns-in-Err-clause-session g c = (returns-in-Err-clause-gate g c).over
 
-pub returns-in-Ok-None-clause-gate : goal.returns-in-Ok-None-clause-gate
-returns-in-Ok-None-clause-gate g c =
-    let i = c.requests.invariant in let r = c.in-Ok-None.ensures in
-    let o = rw c.in-Ok-None.field-0-is at r.octets in
-    gated_as _ _ _ _ _ _ _ _ _ _ _ _ _ _ _ refl refl r.taken refl (closed _ _ _ _ _ _ _ _ _ _ _ _ i.going i.asked _ _ o.0 c.requests-test.true o.1 o.2.0 o.2.1)
+pub returns-in-Err-answer_request-clause-gate : goal.returns-in-Err-answer_request-clause-gate
+returns-in-Err-answer_request-clause-gate g c =
+    let i = c.requests.invariant in let r = c.in-Ok.ensures in let o = r.octets in
+    let w = c.in-Err-answer_request.ensures in
+    let broken = subst (λ (t : Option (List ℕ)). BreaksOff (g.G.Gate.asked c.args.gate.now) g.N.Naming.name c.requests.pass c.answer_request.new.pass c.in-Ok.request c.requests.number t (g.L.Link.taken c.answer_request.new.link) c.in-Err-answer_request.ended) r.taken w.broken in
+    gated_as _ _ _ _ _ _ _ _ _ _ _ _ _ _ _ w.got w.left refl refl (breaks_off _ _ _ _ _ _ _ _ _ _ _ _ i.going i.asked _ _ _ _ o.0 c.in-Ok.request c.in-Err-answer_request.ended c.requests-test.true o.1 o.2 w.grows broken)
 
-pub returns-in-Ok-None-clause-session : goal.returns-in-Ok-None-clause-session
-returns-in-Ok-None-clause-session g c = (returns-in-Ok-None-clause-gate g c).over
-
-pub returns-then-not-is_request-clause-gate : goal.returns-then-not-is_request-clause-gate
-returns-then-not-is_request-clause-gate g c =
-    let i = c.requests.invariant in let r = c.in-Ok-Some.ensures in
-    let o = rw c.in-Ok-Some.field-0-is at r.octets in
-    gated_as _ _ _ _ _ _ _ _ _ _ _ _ _ _ _ refl refl r.taken refl (no_request _ _ _ _ _ _ _ _ _ _ _ _ i.going i.asked _ _ o.0 c.in-Ok-Some.request c.requests-test.true o.1 o.2.0 (sym c.is_request.ensures ∙ c.if-not-is_request.true))
-
-pub returns-then-not-is_request-clause-session : goal.returns-then-not-is_request-clause-session
-returns-then-not-is_request-clause-session g c = (returns-then-not-is_request-clause-gate g c).over
-
-pub returns-in_default-clause-gate : goal.returns-in_default-clause-gate
-returns-in_default-clause-gate g c =
-    let i = c.requests.invariant in let r = c.in-Ok-Some.ensures in
-    let o = rw c.in-Ok-Some.field-0-is at r.octets in
-    gated_as _ _ _ _ _ _ _ _ _ _ _ _ _ _ _ refl refl r.taken refl (no_memory _ _ _ _ _ _ _ _ _ _ _ _ i.going i.asked _ _ _ o.0 c.requests-test.true o.1 c.in_default.ensures.grows)
-
-pub returns-in_default-clause-session : goal.returns-in_default-clause-session
-returns-in_default-clause-session g c = (returns-in_default-clause-gate g c).over
-
-pub returns-in-Err-send-clause-gate : goal.returns-in-Err-send-clause-gate
-returns-in-Err-send-clause-gate g c =
-    let i = c.requests.invariant in let r = c.in-Ok-Some.ensures in
-    let o = rw c.in-Ok-Some.field-0-is at r.octets in
-    let w = c.in-Err-send.ensures in
-    let p = w.prefix in
-    gated_as _ _ _ _ _ _ _ _ _ _ _ _ _ _ _ w.got w.left refl c.ended_by-in-Err-send.ensures
-    (cut_reply _ _ _ _ _ _ _ _ _ _ _ _ i.going i.asked _ _ _ _ o.0 p.0 c.in-Ok-Some.request c.in-Ok.reply c.in-Err-send.fault _ c.requests-test.true o.1 o.2.0 (sym c.is_request.ensures ∙ c.if-not-is_request.false)
-    c.in-Ok.ensures.step (p.1, p.2) (p.3 ∙ ap (λ t. append_known t p.0) r.taken) w.fault c.before_reply.ensures)
-
-pub returns-in-Err-send-clause-session : goal.returns-in-Err-send-clause-session
-returns-in-Err-send-clause-session g c = (returns-in-Err-send-clause-gate g c).over
+pub returns-in-Err-answer_request-clause-session : goal.returns-in-Err-answer_request-clause-session
+returns-in-Err-answer_request-clause-session g c = (returns-in-Err-answer_request-clause-gate g c).over
 
 pub returns-clause-gate : goal.returns-clause-gate
 returns-clause-gate g c =
@@ -75,18 +44,16 @@ returns-clause-session g c = (returns-clause-gate g c).over
 
 pub requests-preserved : goal.requests-preserved
 requests-preserved g c =
-    let i = c.requests.invariant in let r = c.in-Ok-Some.ensures in
-    let o = rw c.in-Ok-Some.field-0-is at r.octets in
-    let a = c.in-Ok.ensures in
-    let w = c.in_default-send.ensures in
+    let i = c.requests.invariant in let r = c.in-Ok.ensures in let o = r.octets in
+    let w = c.in_default.ensures in
+    let sent = subst (λ (t : Option (List ℕ)). Replies (g.G.Gate.asked c.args.gate.now) g.N.Naming.name c.requests.pass c.answer_request.new.pass c.in-Ok.request c.requests.number t (g.L.Link.taken c.answer_request.new.link)) r.taken w.whole in
     record {
       going = going_as _ _ _ _ _ _ _ _ _ _ _ _ _ _ _ w.got w.left refl (ap (λ n. c.requests.at + n) c.frame_size-at.ensures.size)
-          (going_more _ _ _ _ _ _ _ _ _ _ _ i.going _ _ _ _ o.0 c.in-Ok-Some.request c.in-Ok.reply o.1 o.2.0 o.2.1 (sym c.is_request.ensures ∙ c.if-not-is_request.false)
-          a.step (w.whole ∙ ap (λ t. append_known t (frame_of c.in-Ok.reply)) r.taken));
-      asked = below_more _ _ i.asked c.before_reply.ensures;
-      registry = a.grows.registry ∙ i.registry;
-      grows = grows_then _ _ _ i.grows a.grows;
-      later = (let x = i.later in let y = r.cause.later in let z = w.cause.later in omega (arith, x, y, z));
+          (going_more _ _ _ _ _ _ _ _ _ _ _ i.going (g.G.Gate.asked c.args.gate.now) _ _ _ _ o.0 c.in-Ok.request o.1 o.2 sent);
+      asked = below_more _ _ i.asked sent.1.call;
+      registry = w.grows.registry ∙ i.registry;
+      grows = grows_then _ _ _ i.grows w.grows;
+      later = (let x = i.later in let y = r.later in let z = w.later in omega (arith, x, y, z));
       same = w.same ∙ (r.same ∙ i.same);
       small = (let x = i.small in let y = c.frame_size-at.ensures.bound in omega (arith, x, y));
     }
