@@ -1,5 +1,5 @@
 -- Recordings, as a reader's type sees them: lines for their streams and samples (this profile's own).
-use Rattle.std.specs.Prelude.{ℕ, List, [], ◌∷◌, ◌++◌, Some, None, Ok, Err, codes}
+use Rattle.std.specs.Prelude.{ℕ, List, [], ◌∷◌, ◌++◌, Option, Some, None, Result, Ok, Err, codes}
 use Rattle.xt_io.specs.declared.Item.{Item}
 use Rattle.xt_io.specs.Bundles.{Bundle}
 use Rattle.xt_shapes.specs.declared.leaves.Rep.{Rep}
@@ -11,8 +11,10 @@ use Rattle.xt_recorder.specs.Streams.{stream_text}
 use Rattle.xt_recorder.specs.Replays as replays
 use Rattle.xt_recorder.specs.Replays.{State, Answer, nothing, begins, reads, malformed, misplaced, not_added, unresolved, no_top, taken}
 use Rattle.tool_runs.specs.declared.output.ending.Style.TheVariants.{Lines}
+use Rattle.tool_runs.specs.declared.output.stop.Stop.{Stop}
 use Rattle.tool_runs.specs.output.Outputs as outputs
 use Rattle.tool_runs.specs.output.Outputs.{Output, Turn, goes_on, over, after_turn, run, finished}
+use Rattle.tool_runs.specs.output.Runs.{Steps}
 use Rattle.tool_samples.specs.lines.Lines.{no_text, outcome_line}
 use Rattle.tool_types.specs.Types.{types_refusal, pool_refusal}
 use Rattle.tool_types.specs.names.Names.{walk_refusal}
@@ -59,6 +61,10 @@ replay_turn t k item s = stepped t k item (taken t s item)
 -- what is written of a record, and then of what stands behind it
 abbrev pub replayed_by : Tree → ℕ → Item → State → (State → Output) → Output
 replayed_by t k item s more = after_turn Lines (replay_turn t k item s) more
+
+-- What was written leads from a record, taken in one state, to what is still to come in another.
+abbrev pub ReplaysRecord : {T : Type 0} → Tree → ℕ → Item → State → State → Result T Stop → Option (List ℕ) → Option (List ℕ) → Type 0
+ReplaysRecord t k item s after result old new = (more : State → Output) → Steps Lines (Some (replayed_by t k item s more)) (Some (more after)) result old new
 
 -- A stream that the reader's type isn't assignable from ends nothing: the records are taken to their end.
 abbrev pub replayed : Tree → State → ℕ → Bundle → Output

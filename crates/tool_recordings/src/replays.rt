@@ -2,7 +2,7 @@ ghost use Rattle.std.specs.Prelude.{◌≡◌, [], ◌∷◌, Some, None, true, 
 ghost use Rattle.type_trees.specs.View.{tree};
 ghost use Rattle.type_trees.specs.Bridge.{type_shape};
 ghost use Rattle.xt_recorder.specs.Replaying.{reader_of, state_of};
-ghost use Rattle.xt_recorder.specs.Replays.{State, read_in};
+ghost use Rattle.xt_recorder.specs.Replays.{read_in};
 ghost use Rattle.xt_io.specs.Bundles.{item_of};
 ghost use Rattle.xt_io.specs.declared.Kind.TheVariants.{Sample};
 ghost use Rattle.tool_runs.specs.output.Outputs.{Output, after_pieces};
@@ -11,7 +11,7 @@ ghost use Rattle.type_trees.specs.samples.Tops.{is_top};
 ghost use Rattle.tool_types.specs.names.Meanings.{IsFound};
 ghost use Rattle.tool_samples.specs.Sampling.{PlansFor};
 ghost use Rattle.tool_samples.specs.lines.Lines.{sample_line};
-ghost use Rattle.tool_recordings.specs.Replaying.{replay_turn, replayed_by};
+ghost use Rattle.tool_recordings.specs.Replaying.{ReplaysRecord, replay_turn};
 
 use crate::lines::say_replayed;
 use crate::refusals::refuse_replay;
@@ -100,7 +100,7 @@ impl Replays {
         payload: &[u8],
         sink: &mut K,
     ) -> Result<(), Stop>
-        ensures steps { (more : State → Output) → Steps Style.Lines (Some (replayed_by (reader_of self.old.replayer) number (item_of head payload.now) (state_of self.old.replayer) more)) (Some (more (state_of self.new.replayer))) result (K.taken sink.old) (K.taken sink.new) }
+        ensures steps { ReplaysRecord (reader_of self.old.replayer) number (item_of head payload.now) (state_of self.old.replayer) (state_of self.new.replayer) result (K.taken sink.old) (K.taken sink.new) }
         ensures reader { reader_of self.new.replayer ≡ reader_of self.old.replayer }
         ensures stops { StopsWriting (K.faults sink.old) (K.faults sink.new) result }
         ensures same { K.name sink.new ≡ K.name sink.old }
@@ -122,7 +122,7 @@ impl Replays {
         item: &Item,
         sink: &mut K,
     ) -> Result<(), Stop>
-        ensures steps { (more : State → Output) → Steps Style.Lines (Some (replayed_by (reader_of self.old.replayer) number item.now (state_of self.old.replayer) more)) (Some (more (state_of self.new.replayer))) result (K.taken sink.old) (K.taken sink.new) }
+        ensures steps { ReplaysRecord (reader_of self.old.replayer) number item.now (state_of self.old.replayer) (state_of self.new.replayer) result (K.taken sink.old) (K.taken sink.new) }
         ensures reader { reader_of self.new.replayer ≡ reader_of self.old.replayer }
         ensures stops { StopsWriting (K.faults sink.old) (K.faults sink.new) result }
         ensures same { K.name sink.new ≡ K.name sink.old }
