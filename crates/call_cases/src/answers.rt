@@ -1,52 +1,62 @@
 //! What calls give.
-ghost use Rattle.std.specs.Prelude.{None};
-
 use assignability::Verdict;
 use std::alloc::{AllocError, Global};
-use std::fmt;
 use type_rules::TypeFault;
 use xt_wire::cursor::DecodeFault;
 
-/// What a call gives. It is printed to be compared with what is wanted.
+/// What a call gives, in print, to be compared with what is wanted.
 #[derive(Drop)]
 pub enum Answer {
     /// What is said in words that are fixed.
     Word(&'static str),
-    /// Whether it is so.
-    Is(bool),
-    Count(u64),
-    /// IDL, JSON or octets in hexadecimal.
+    /// What is made up: IDL, JSON, octets in hexadecimal, a number or a fault.
     Text(String),
-    /// The rule of valid types that a type breaks, and the node.
-    Broken(TypeFault),
-    Judged(Verdict),
-    /// The JSON of a value that was read.
-    Read(String),
-    /// Why no value was read.
-    Unread(DecodeFault),
 }
 
-impl fmt::Display for Answer {
-    ghost output = { λ answer. None };
+impl Answer {
+    /// Whether it is so.
+    pub fn is(so: bool) -> Answer {
+        Answer::Word(if so { "true" } else { "false" })
+    }
 
-    fn fmt<W: fmt::Write>(&self, f: &mut fmt::Formatter<W>) -> fmt::Result {
-        match self {
-            Answer::Word(word) => f.write_str(word),
-            Answer::Is(is) => write!(f, "{is}"),
-            Answer::Count(count) => write!(f, "{count}"),
-            Answer::Text(text) => f.write_str(text.as_str()),
-            Answer::Broken(fault) => write!(f, "V{} {}", fault.rule, fault.node),
-            Answer::Judged(Verdict::Yes) => f.write_str("yes"),
-            Answer::Judged(Verdict::No { rule, path }) => write!(f, "no {rule} {path}"),
-            Answer::Read(json) => write!(f, "ok {json}"),
-            Answer::Unread(DecodeFault::Malformed { at, why }) => write!(f, "malformed {at} {why}"),
-            Answer::Unread(DecodeFault::ReadFault) => f.write_str("read-fault"),
-            Answer::Unread(DecodeFault::OutOfMemory) => f.write_str("out of memory"),
+    pub fn count(alloc: Global, count: u64) -> Result<Answer, AllocError> {
+        Ok(Answer::Text(format!(in alloc; "{count}")?))
+    }
+
+    /// The rule of valid types that a type breaks, and the node.
+    pub fn broken(alloc: Global, fault: &TypeFault) -> Result<Answer, AllocError> {
+        Ok(Answer::Text(format!(in alloc; "V{} {}", fault.rule, fault.node)?))
+    }
+
+    pub fn judged(alloc: Global, verdict: &Verdict) -> Result<Answer, AllocError> {
+        match verdict {
+            Verdict::Yes => Ok(Answer::Word("yes")),
+            Verdict::No { rule, path } => {
+                Ok(Answer::Text(format!(in alloc; "no {rule} {path}")?))
+            }
         }
     }
-}
 
-/// An answer in print.
-pub fn said(alloc: Global, answer: &Answer) -> Result<String, AllocError> {
-    format!(in alloc; "{answer}")
+    /// The JSON of a value that was read.
+    pub fn read(alloc: Global, json: &str) -> Result<Answer, AllocError> {
+        Ok(Answer::Text(format!(in alloc; "ok {json}")?))
+    }
+
+    /// Why no value was read.
+    pub fn unread(alloc: Global, fault: DecodeFault) -> Result<Answer, AllocError> {
+        match fault {
+            DecodeFault::Malformed { at, why } => {
+                Ok(Answer::Text(format!(in alloc; "malformed {at} {why}")?))
+            }
+            DecodeFault::ReadFault => Ok(Answer::Word("read-fault")),
+            DecodeFault::OutOfMemory => Ok(Answer::Word("out of memory")),
+        }
+    }
+
+    pub fn as_str(&self) -> &str {
+        match self {
+            Answer::Word(word) => word,
+            Answer::Text(text) => text.as_str(),
+        }
+    }
 }

@@ -9,7 +9,8 @@ use crate::parts::{hashed, headed, noted, put_each, referred, settled};
 use crate::samples::{body_read, sample_again, sample_read, told};
 use crate::trouble::Trouble;
 use crate::values::{
-    given_value, json_of, json_told, pairs_of, string_of, taped_value, type_of, types_of, value_of,
+    MOST_TEXT, given_value, json_of, json_told, pairs_of, string_of, taped_value, type_of,
+    types_of, value_of,
 };
 use crate::writing::{body_written, rep_of, sample_faults, sample_written, text_size};
 use assignability::{equivalent, judge, judge_under};
@@ -23,7 +24,7 @@ use type_trees::{Member, Name, Named, StructType, Value, XType, as_map, as_struc
 use type_values::same::same_type;
 use type_values::{base_of, copy_type, copy_value, default_value, has_same_keys, has_type};
 use xcdr_model::Policy;
-use xt_idl::{IdlFault, print};
+use xt_idl::{IdlFault, parse, print};
 use xt_lists::{OutOfMemory, Row, Text};
 
 /// The answer of a call over the texts of a case.
@@ -64,14 +65,20 @@ pub fn answer(alloc: Global, call: &str, case: &Case<'_>) -> Result<Answer, Trou
 
 /// `valid`, or the rule that the text's first invalid type breaks, and where.
 fn check(alloc: Global, case: &Case<'_>) -> Result<Answer, Trouble> {
-    let types = match types_of(alloc, case.ty) {
-        Ok(types) => types,
-        Err(Trouble::Idl(IdlFault::Invalid { at: _, fault })) => return Ok(Answer::Broken(fault)),
-        Err(trouble) => return Err(trouble),
-    };
-    for named in types.as_slice() {
+    if MOST_TEXT < case.ty.len() {
+        return Err(Trouble::Words);
+    }
+    match parse(alloc, case.ty.as_bytes()) {
+        Ok(types) => all_checked(alloc, types.as_slice()),
+        Err(IdlFault::Invalid { at: _, fault }) => Ok(Answer::broken(alloc, &fault)?),
+        Err(fault) => Err(Trouble::idl(alloc, &fault)),
+    }
+}
+
+fn all_checked(alloc: Global, types: &[Named]) -> Result<Answer, Trouble> {
+    for named in types {
         if let Err(fault) = check_type(&named.ty) {
-            return Ok(Answer::Broken(fault));
+            return Ok(Answer::broken(alloc, &fault)?);
         }
     }
     Ok(Answer::Word("valid"))
@@ -88,12 +95,12 @@ fn weighed(alloc: Global, case: &Case<'_>) -> Result<Answer, Trouble> {
     if capped < TOO_MANY && weight(&ty) != capped {
         return Ok(Answer::Word("two weights"));
     }
-    Ok(Answer::Count(capped))
+    Ok(Answer::count(alloc, capped)?)
 }
 
 fn nodes(alloc: Global, case: &Case<'_>) -> Result<Answer, Trouble> {
     let ty = type_of(alloc, case.ty)?;
-    Ok(Answer::Count(capped_nodes(&ty)))
+    Ok(Answer::count(alloc, capped_nodes(&ty))?)
 }
 
 /// Whether the type has the value, which the writer's type has. A list of pairs stands for a map.
@@ -101,10 +108,10 @@ fn typed(alloc: Global, case: &Case<'_>) -> Result<Answer, Trouble> {
     let ty = type_of(alloc, case.ty)?;
     let value = given_value(alloc, case)?;
     if as_map(&ty).is_none() {
-        return Ok(Answer::Is(has_type(&ty, &value)));
+        return Ok(Answer::is(has_type(&ty, &value)));
     }
     let map = Box::new(alloc, Value::Map(pairs_of(alloc, value)?))?;
-    Ok(Answer::Is(has_type(&ty, &map)))
+    Ok(Answer::is(has_type(&ty, &map)))
 }
 
 fn default_of(alloc: Global, case: &Case<'_>) -> Result<Answer, Trouble> {
@@ -168,7 +175,7 @@ fn base(alloc: Global, case: &Case<'_>) -> Result<Answer, Trouble> {
 /// Whether two pairs have one key.
 fn same_keys(alloc: Global, case: &Case<'_>) -> Result<Answer, Trouble> {
     let pairs = pairs_of(alloc, given_value(alloc, case)?)?;
-    Ok(Answer::Is(has_same_keys(alloc, pairs.as_slice())?))
+    Ok(Answer::is(has_same_keys(alloc, pairs.as_slice())?))
 }
 
 /// The JSON of the value by the type, whether or not the type has it.
@@ -263,13 +270,13 @@ fn judged(alloc: Global, words: &str, case: &Case<'_>) -> Result<Answer, Trouble
     } else {
         judge_under(&policy, rep, &reader, &writer)
     };
-    Ok(Answer::Judged(verdict))
+    Ok(Answer::judged(alloc, &verdict)?)
 }
 
 fn equal(alloc: Global, case: &Case<'_>) -> Result<Answer, Trouble> {
     let reader = type_of(alloc, case.ty)?;
     let writer = type_of(alloc, case.writer)?;
-    Ok(Answer::Is(equivalent(&reader, &writer)))
+    Ok(Answer::is(equivalent(&reader, &writer)))
 }
 
 fn projected(alloc: Global, case: &Case<'_>) -> Result<Answer, Trouble> {

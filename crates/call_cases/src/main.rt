@@ -11,7 +11,6 @@ mod trouble;
 mod values;
 mod writing;
 
-use answers::said;
 use calls::answer;
 use cases::Case;
 use std::alloc::{AllocError, Global};
@@ -27,11 +26,17 @@ fn run_line(
     call: &str,
     wanted: &str,
 ) -> Result<Verdict, AllocError> {
-    let came = match answer(alloc, call, case) {
-        Ok(answer) => said(alloc, &answer)?,
-        Err(trouble) => format!(in alloc; "{trouble}")?,
-    };
-    if came.as_str() == wanted {
+    match answer(alloc, call, case) {
+        Ok(answer) => compared(alloc, call, answer.as_str(), wanted),
+        Err(trouble) => {
+            let told = format!(in alloc; "{trouble}")?;
+            compared(alloc, call, told.as_str(), wanted)
+        }
+    }
+}
+
+fn compared(alloc: Global, call: &str, came: &str, wanted: &str) -> Result<Verdict, AllocError> {
+    if came == wanted {
         return Ok(None);
     }
     Ok(Some(format!(in alloc; "{call}: {came}, not {wanted}")?))

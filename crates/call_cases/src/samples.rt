@@ -3,7 +3,7 @@ ghost use Rattle.std.specs.Prelude.{◌≡◌, None};
 ghost use Rattle.type_trees.specs.View.{tree};
 ghost use Rattle.type_rules.specs.Valid.{type_fault};
 
-use crate::answers::{Answer, said};
+use crate::answers::Answer;
 use crate::cases::Case;
 use crate::trouble::Trouble;
 use crate::values::{json_of, type_of};
@@ -26,7 +26,7 @@ pub fn told(alloc: Global, ty: &XType, outcome: &Outcome) -> Result<Answer, Trou
     requires { type_fault (tree ty.now) ≡ None }
 {
     match outcome {
-        Outcome::Sample(value) => Ok(Answer::Read(json_of(alloc, ty, value)?)),
+        Outcome::Sample(value) => Ok(Answer::read(alloc, json_of(alloc, ty, value)?.as_str())?),
         Outcome::Discarded => Ok(Answer::Word("discarded")),
         Outcome::MustUnderstand => Ok(Answer::Word("must-understand")),
     }
@@ -41,7 +41,7 @@ fn answer_of(
 {
     match answer {
         Ok(outcome) => told(alloc, ty, &outcome),
-        Err(fault) => Ok(Answer::Unread(fault)),
+        Err(fault) => Ok(Answer::unread(alloc, fault)?),
     }
 }
 
@@ -135,7 +135,7 @@ fn is_streamed(
     requires { type_fault (tree ty.now) ≡ None }
 {
     let other = streamed(alloc, rep, ty, payload, most)?;
-    Ok(said(alloc, &other)?.as_str() == answer)
+    Ok(other.as_str() == answer)
 }
 
 /// Whether the sample is read as this answer from records whose sources give at most 1, 2, 3 and 7 octets in a call.
@@ -144,13 +144,12 @@ fn is_read_from_each(
     rep: Rep,
     ty: &XType,
     payload: &[u8],
-    answer: &Answer,
+    answer: &str,
 ) -> Result<bool, Trouble>
     requires { type_fault (tree ty.now) ≡ None }
 {
-    let told = said(alloc, answer)?;
     for most in [1, 2, 3, 7] {
-        if !is_streamed(alloc, rep, ty, payload, most, told.as_str())? {
+        if !is_streamed(alloc, rep, ty, payload, most, answer)? {
             return Ok(false);
         }
     }
@@ -163,7 +162,7 @@ fn payload_read(alloc: Global, rep: Rep, ty: &XType, payload: &[u8]) -> Result<A
 {
     let mut cursor = SliceCursor::new(payload);
     let answer = answer_of(alloc, ty, sample_of(alloc, rep, ty, &mut cursor))?;
-    if is_read_from_each(alloc, rep, ty, payload, &answer)? {
+    if is_read_from_each(alloc, rep, ty, payload, answer.as_str())? {
         return Ok(answer);
     }
     Ok(Answer::Word("another answer from a stream"))

@@ -1,23 +1,18 @@
 //! Why a call has no answer.
 use dynamic_data::ValueFault;
 use hex::FromHexError;
-use std::alloc::{AllocError, AllocFailed};
+use std::alloc::{AllocError, AllocFailed, Global};
 use thiserror::Error;
+use type_rules::TypeFault;
 use xt_idl::IdlFault;
 use xt_lists::OutOfMemory;
 
 /// Why a call has no answer. It is printed in the answer's place.
 #[derive(Debug, Drop, Error)]
 pub enum Trouble {
-    /// The text declares no types.
-    #[error("idl {0}")]
-    Idl(IdlFault),
-    /// A type breaks a rule.
-    #[error("V{rule} {node}")]
-    Invalid { rule: u8, node: String },
-    /// The JSON gives no value.
-    #[error("json {0}")]
-    Json(ValueFault),
+    /// The text declares no types, a type breaks a rule, or the JSON gives no value.
+    #[error("{0}")]
+    Faulty(String),
     /// The octets are no hexadecimal.
     #[error("no hexadecimal")]
     Hex,
@@ -29,6 +24,27 @@ pub enum Trouble {
     Size,
     #[error("out of memory")]
     OutOfMemory,
+}
+
+impl Trouble {
+    pub fn idl(alloc: Global, fault: &IdlFault) -> Trouble {
+        Trouble::told(format!(in alloc; "idl {fault}"))
+    }
+
+    pub fn invalid(alloc: Global, fault: &TypeFault) -> Trouble {
+        Trouble::told(format!(in alloc; "V{} {}", fault.rule, fault.node))
+    }
+
+    pub fn json(alloc: Global, fault: &ValueFault) -> Trouble {
+        Trouble::told(format!(in alloc; "json {fault}"))
+    }
+
+    fn told(text: Result<String, AllocError>) -> Trouble {
+        match text {
+            Ok(text) => Trouble::Faulty(text),
+            Err(_) => Trouble::OutOfMemory,
+        }
+    }
 }
 
 impl From<OutOfMemory> for Trouble {
@@ -46,18 +62,6 @@ impl From<AllocError> for Trouble {
 impl<T: Drop> From<AllocFailed<T>> for Trouble {
     fn from(_: AllocFailed<T>) -> Trouble {
         Trouble::OutOfMemory
-    }
-}
-
-impl From<IdlFault> for Trouble {
-    fn from(fault: IdlFault) -> Trouble {
-        Trouble::Idl(fault)
-    }
-}
-
-impl From<ValueFault> for Trouble {
-    fn from(fault: ValueFault) -> Trouble {
-        Trouble::Json(fault)
     }
 }
 

@@ -22,14 +22,17 @@ use xt_shapes::Rep;
 use xt_wire::cursor::SliceCursor;
 
 /// The most octets that `parse` takes.
-const MOST_TEXT: usize = 1_048_576;
+pub const MOST_TEXT: usize = 1_048_576;
 
 /// The types that the text declares.
 pub fn types_of(alloc: Global, text: &str) -> Result<Row<Named>, Trouble> {
     if text.len() > MOST_TEXT {
         return Err(Trouble::Words);
     }
-    Ok(parse(alloc, text.as_bytes())?)
+    match parse(alloc, text.as_bytes()) {
+        Ok(types) => Ok(types),
+        Err(fault) => Err(Trouble::idl(alloc, &fault)),
+    }
 }
 
 /// The type, if it breaks no rule.
@@ -38,10 +41,7 @@ fn checked(alloc: Global, ty: XType) -> Result<Box<XType>, Trouble>
 {
     match check_type(&ty) {
         Ok(()) => Ok(Box::new(alloc, ty)?),
-        Err(fault) => Err(Trouble::Invalid {
-            rule: fault.rule,
-            node: format!(in alloc; "{}", fault.node)?,
-        }),
+        Err(fault) => Err(Trouble::invalid(alloc, &fault)),
     }
 }
 
@@ -60,7 +60,10 @@ pub fn type_of(alloc: Global, text: &str) -> Result<Box<XType>, Trouble>
 pub fn value_of(alloc: Global, ty: &XType, json: &str) -> Result<Box<Value>, Trouble>
     requires { type_fault (tree ty.now) ≡ None }
 {
-    Ok(Box::new(alloc, from_json(alloc, ty, json.as_bytes())?)?)
+    match from_json(alloc, ty, json.as_bytes()) {
+        Ok(value) => Ok(Box::new(alloc, value)?),
+        Err(fault) => Err(Trouble::json(alloc, &fault)),
+    }
 }
 
 /// The value that a tape of the JSON's tokens gives for the type, if it gives one. It comes packed, and is read from the sample that it makes.

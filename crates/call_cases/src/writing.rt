@@ -193,7 +193,7 @@ fn calls_told(
     for calls in 0..1_000u64 {
         match is_refused(alloc, rep, ty, value, order, calls + 1, whole) {
             Some(true) => {}
-            Some(false) => return Ok(Answer::Count(calls)),
+            Some(false) => return Ok(Answer::count(alloc, calls)?),
             None => return Ok(Answer::Word("other octets")),
         }
     }
@@ -230,7 +230,7 @@ pub fn text_size(alloc: Global, words: &str, case: &Case<'_>) -> Result<Answer, 
     let ty = type_of(alloc, case.ty)?;
     let text = Box::new(alloc, Value::Str(text_of(alloc, count)?))?;
     match size2(&ty, &text) {
-        Some(size) => Ok(Answer::Count(u64::from(size))),
+        Some(size) => Ok(Answer::count(alloc, u64::from(size))?),
         None => Ok(Answer::Word("too large")),
     }
 }
