@@ -46,7 +46,7 @@ fn run_all<R: Print + Threads + Sync>(rt: &R, alloc: Global, text: &str) -> Resu
 fn main(rt: HostRuntime) -> ExitCode {
     let ended = match io::read_to_string(rt.alloc(), rt.reader()) {
         Ok(text) => run_all(&rt, rt.alloc(), text.as_str()),
-        Err(error) => Err(Trouble::Io(error)),
+        Err(error) => Err(Trouble::from(error)),
     };
     match ended {
         Ok(()) => ExitCode::SUCCESS,

@@ -15,7 +15,7 @@ pub enum Trouble {
     Unfinished(String),
     /// The input or the output failed.
     #[error("{0}")]
-    Io(io::Error),
+    Io(io::ErrorKind),
     #[error("out of memory")]
     OutOfMemory,
 }
@@ -40,6 +40,6 @@ impl<T: Drop> From<AllocFailed<T>> for Trouble {
 
 impl From<io::Error> for Trouble {
     fn from(error: io::Error) -> Trouble {
-        Trouble::Io(error)
+        Trouble::Io(error.kind())
     }
 }
