@@ -1,7 +1,7 @@
 //! The adapters over std and TCP, and what never fails.
 use std::alloc::Global;
 use std::io::{self, BufReader};
-use std::net::{Net as System, TcpListener, TcpStream};
+use std::net::TcpListener;
 use std::test::Fail;
 use xt_io::BundleReader;
 use xt_lists::{OutOfMemory, Text};
@@ -98,36 +98,49 @@ fn writes_through_a_writer_of_std(rt: HostRuntime) {
     assert!(rt; failing.write(b"") == Ok(0));
 }
 
-// The first octets that came over a connection from one end to the other and back, and how many doors were opened.
-fn talk<R: System<Stream = TcpStream, Listener = TcpListener>>(
-    system: &R,
-    alloc: Global,
-) -> Option<(usize, u8, usize)> {
-    let listener = TcpListener::bind(system, "127.0.0.1:0").ok()?;
-    let port = listener.local_addr().ok()?.port();
-    let address = format!(in alloc; "127.0.0.1:{port}").ok()?;
-    let address = Text::from_octets(alloc, address.as_bytes()).ok()?;
-    let mut net = TcpNet::new(system);
-    let mut door = TcpDoor::new(listener);
-    let mut near = net.connect(alloc, &address).ok()?;
-    let mut far = door.accept(alloc).ok()?;
+// How many octets come at one end of a connection of three that are written at the other, and the first of them.
+fn pass_over<N: Link, F: Link>(near: &mut N, far: &mut F) -> Option<(usize, u8)> {
     let mut came = [0u8; 4];
     if near.write(&[7, 8, 9]).ok()? < 3 {
         return None;
     }
     let count = far.read(&mut came).ok()?;
+    Some((count, came[0]))
+}
+
+fn address_of(alloc: Global, listener: &TcpListener) -> Option<Text> {
+    let port = listener.local_addr().ok()?.port();
+    let address = format!(in alloc; "127.0.0.1:{port}").ok()?;
+    Text::from_octets(alloc, address.as_bytes()).ok()
+}
+
+// What passes over a connection to a listener's door.
+fn pass_through<N: Net>(net: &mut N, alloc: Global, listener: TcpListener) -> Option<(usize, u8)> {
+    let address = address_of(alloc, &listener)?;
+    let mut door = TcpDoor::new(listener);
+    let mut near = net.connect(alloc, &address).ok()?;
+    let mut far = door.accept(alloc).ok()?;
+    let passed = pass_over(&mut near, &mut far);
     door.end_link(far);
     net.end_link(near);
+    passed
+}
+
+// How many doors are opened where two are asked for.
+fn open_two<N: Net>(net: &mut N, alloc: Global) -> Option<usize> {
     let any = Text::from_octets(alloc, b"127.0.0.1:0").ok()?;
     let doors = net.doors(alloc, &any, 2).ok()?;
     let opened = doors.len();
     net.end_doors(doors);
-    Some((count, came[0], opened))
+    Some(opened)
 }
 
 #[test]
 fn links_and_doors_over_loopback(rt: HostRuntime) {
-    assert!(rt; talk(&rt, rt.alloc()) == Some((3, 7, 2)));
+    let listener = TcpListener::bind(&rt, "127.0.0.1:0").expect(&rt, "a listener");
+    let mut net = TcpNet::new(&rt);
+    assert!(rt; pass_through(&mut net, rt.alloc(), listener) == Some((3, 7)));
+    assert!(rt; open_two(&mut net, rt.alloc()) == Some(2));
 }
 
 #[test]

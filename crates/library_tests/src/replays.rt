@@ -7,22 +7,27 @@ use std::alloc::Global;
 use type_object::Pool;
 use type_rules::check_type;
 use type_trees::samples::is_top;
-use type_trees::{Slot, Value};
+use type_trees::{Slot, Value, XType};
 use xt_io::{Item, Kind};
 use xt_lists::{OutOfMemory, Text};
 use xt_recorder::{ReplayFault, Replayed, Replayer};
+
+// A replayer over this type, where it is valid and a top.
+fn replayer_of(alloc: Global, ty: XType, pool: Pool) -> Option<Box<Replayer>> {
+    if check_type(&ty).is_err() || !is_top(&ty) {
+        return None;
+    }
+    Box::new(alloc, Replayer::new(ty, pool)).ok()
+}
 
 // A replayer over the object's type, which is judged as a type.
 fn replayer(alloc: Global) -> Option<Box<Replayer>> {
     let mut pool = Pool::new(alloc);
     let id = pool.add(&COLOR).ok()?;
-    let Ok(ty) = resolve(alloc, &pool, &id) else {
-        return None;
-    };
-    if check_type(&ty).is_err() || !is_top(&ty) {
-        return None;
+    match resolve(alloc, &pool, &id) {
+        Ok(ty) => replayer_of(alloc, ty, pool),
+        Err(_) => None,
     }
-    Box::new(alloc, Replayer::new(ty, pool)).ok()
 }
 
 fn item(alloc: Global, kind: Kind, octets: &[u8]) -> Result<Item, OutOfMemory> {
@@ -44,8 +49,9 @@ fn is_five(value: &Value) -> bool {
     }
 }
 
-fn begins(taken: &Result<Replayed, ReplayFault>) -> bool {
-    match taken {
+// Whether a record begins a stream that the reader's type is assignable from.
+fn begins(alloc: Global, replayer: &mut Replayer, note: &Item) -> bool {
+    match replayer.take(alloc, note) {
         Ok(
             Replayed::Stream {
                 verdict: Verdict::Yes,
@@ -56,9 +62,10 @@ fn begins(taken: &Result<Replayed, ReplayFault>) -> bool {
     }
 }
 
-fn reads_five(taken: &Result<Replayed, ReplayFault>) -> bool {
-    match taken {
-        Ok(Replayed::Read(Outcome::Sample(value))) => is_five(value),
+// Whether a record is read as a structure of 5 alone.
+fn reads_five(alloc: Global, replayer: &mut Replayer, sample: &Item) -> bool {
+    match replayer.take(alloc, sample) {
+        Ok(Replayed::Read(Outcome::Sample(value))) => is_five(&value),
         _ => false,
     }
 }
@@ -74,6 +81,6 @@ fn a_stream_is_judged_by_types(rt: HostRuntime) {
     .expect(&rt, "memory");
     let sample = item(alloc, Kind::Sample, b"\0\x07\0\0\x05\0\0\0").expect(&rt, "memory");
     let mut replayer = replayer(alloc).expect(&rt, "a replayer");
-    assert!(rt; begins(&replayer.take(alloc, &note)));
-    assert!(rt; reads_five(&replayer.take(alloc, &sample)));
+    assert!(rt; begins(alloc, &mut replayer, &note));
+    assert!(rt; reads_five(alloc, &mut replayer, &sample));
 }
