@@ -23,9 +23,8 @@ impl Answer {
         Ok(Answer::Text(format!(in alloc; "{count}")?))
     }
 
-    /// The rule of valid types that a type breaks, and the node.
     pub fn broken(alloc: Global, fault: &TypeFault) -> Result<Answer, AllocError> {
-        Ok(Answer::Text(format!(in alloc; "V{} {}", fault.rule, fault.node)?))
+        Ok(Answer::Text(fault_told(alloc, fault)?))
     }
 
     pub fn judged(alloc: Global, verdict: &Verdict) -> Result<Answer, AllocError> {
@@ -59,4 +58,9 @@ impl Answer {
             Answer::Text(text) => text.as_str(),
         }
     }
+}
+
+/// The rule of valid types that a type breaks, and the node.
+pub fn fault_told(alloc: Global, fault: &TypeFault) -> Result<String, AllocError> {
+    format!(in alloc; "V{} {}", fault.rule, fault.node)
 }

@@ -9,8 +9,8 @@ use crate::parts::{hashed, headed, noted, put_each, referred, settled};
 use crate::samples::{body_read, sample_again, sample_read, told};
 use crate::trouble::Trouble;
 use crate::values::{
-    MOST_TEXT, given_value, json_of, json_told, pairs_of, string_of, taped_value, type_of,
-    types_of, value_of,
+    given_value, json_of, json_told, pairs_of, parsed, string_of, taped_value, type_of, types_of,
+    value_of,
 };
 use crate::writing::{body_written, rep_of, sample_faults, sample_written, text_size};
 use assignability::{equivalent, judge, judge_under};
@@ -24,7 +24,7 @@ use type_trees::{Member, Name, Named, StructType, Value, XType, as_map, as_struc
 use type_values::same::same_type;
 use type_values::{base_of, copy_type, copy_value, default_value, has_same_keys, has_type};
 use xcdr_model::Policy;
-use xt_idl::{IdlFault, parse, print};
+use xt_idl::{IdlFault, print};
 use xt_lists::{OutOfMemory, Row, Text};
 
 /// The answer of a call over the texts of a case.
@@ -65,10 +65,7 @@ pub fn answer(alloc: Global, call: &str, case: &Case<'_>) -> Result<Answer, Trou
 
 /// `valid`, or the rule that the text's first invalid type breaks, and where.
 fn check(alloc: Global, case: &Case<'_>) -> Result<Answer, Trouble> {
-    if MOST_TEXT < case.ty.len() {
-        return Err(Trouble::Words);
-    }
-    match parse(alloc, case.ty.as_bytes()) {
+    match parsed(alloc, case.ty)? {
         Ok(types) => all_checked(alloc, types.as_slice()),
         Err(IdlFault::Invalid { at: _, fault }) => Ok(Answer::broken(alloc, &fault)?),
         Err(fault) => Err(Trouble::idl(alloc, &fault)),

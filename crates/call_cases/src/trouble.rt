@@ -1,4 +1,5 @@
 //! Why a call has no answer.
+use crate::answers::fault_told;
 use dynamic_data::ValueFault;
 use hex::FromHexError;
 use std::alloc::{AllocError, AllocFailed, Global};
@@ -32,7 +33,7 @@ impl Trouble {
     }
 
     pub fn invalid(alloc: Global, fault: &TypeFault) -> Trouble {
-        Trouble::told(format!(in alloc; "V{} {}", fault.rule, fault.node))
+        Trouble::told(fault_told(alloc, fault))
     }
 
     pub fn json(alloc: Global, fault: &ValueFault) -> Trouble {

@@ -16,20 +16,25 @@ use type_rules::check_type;
 use type_trees::{Named, Pair, Slot, Value, XType};
 use type_values::copy_value;
 use xcdr_samples::read_sample2;
-use xt_idl::parse;
+use xt_idl::{IdlFault, parse};
 use xt_lists::{Row, Text};
 use xt_shapes::Rep;
 use xt_wire::cursor::SliceCursor;
 
 /// The most octets that `parse` takes.
-pub const MOST_TEXT: usize = 1_048_576;
+const MOST_TEXT: usize = 1_048_576;
 
-/// The types that the text declares.
-pub fn types_of(alloc: Global, text: &str) -> Result<Row<Named>, Trouble> {
+/// The types that the text declares, or why it declares none.
+pub fn parsed(alloc: Global, text: &str) -> Result<Result<Row<Named>, IdlFault>, Trouble> {
     if text.len() > MOST_TEXT {
         return Err(Trouble::Words);
     }
-    match parse(alloc, text.as_bytes()) {
+    Ok(parse(alloc, text.as_bytes()))
+}
+
+/// The types that the text declares.
+pub fn types_of(alloc: Global, text: &str) -> Result<Row<Named>, Trouble> {
+    match parsed(alloc, text)? {
         Ok(types) => Ok(types),
         Err(fault) => Err(Trouble::idl(alloc, &fault)),
     }
