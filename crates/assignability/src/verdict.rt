@@ -16,7 +16,7 @@ pub enum Verdict {
 }
 
 /// A rule that fails at a pair of types, or at a pair inside.
-#[derive(Debug, Drop)]
+#[derive(Drop)]
 pub(crate) struct Failure {
     pub(crate) rule: Rule,
     pub(crate) path: Path,

@@ -22,7 +22,7 @@ use xt_lists::Row;
 use xt_shapes::Ext;
 
 /// The place of a structure's base, if it has one, whether that is a structure of the same extensibility, and the id after its last member's.
-#[derive(Debug, Clone, Copy)]
+#[derive(Clone, Copy)]
 pub(crate) struct Heritage {
     pub(crate) fits: bool,
     pub(crate) base: Option<usize>,

@@ -17,7 +17,7 @@ use xt_lists::{OutOfMemory, Row};
 use xt_shapes::{Prim, Try};
 
 /// A collection whose inner type is being read: an element or a map's value, or a map's key.
-#[derive(Clone, Copy, Debug, Drop)]
+#[derive(Clone, Copy, Drop)]
 pub(crate) enum Open {
     Element,
     Key,

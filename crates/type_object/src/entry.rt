@@ -16,7 +16,7 @@ pub(crate) struct Entry {
 }
 
 /// What becomes of a text that is added, if it is an object's.
-#[derive(Debug, Clone, Copy, PartialEq, Eq)]
+#[derive(Clone, Copy, PartialEq, Eq)]
 pub(crate) enum Placed {
     /// It is there already.
     Present,

@@ -8,7 +8,7 @@ use type_trees::{Name, name_number};
 use xt_lists::OutOfMemory;
 
 /// A name that something is known of: a type's, or a member's.
-#[derive(Debug, Clone, Copy, PartialEq, Eq, Hash)]
+#[derive(Clone, Copy, PartialEq, Eq, Hash)]
 pub(crate) struct Called<'a> {
     pub(crate) name: &'a [u8],
 }

@@ -10,7 +10,7 @@ use xcdr_steps::scalars::read_presence;
 use xt_wire::cursor::{Cursor, DecodeFault};
 
 /// What comes of a member.
-#[derive(Clone, Copy, Debug)]
+#[derive(Clone, Copy)]
 pub(crate) enum Coming {
     /// Nothing.
     Absent,

@@ -8,7 +8,7 @@ use xt_lists::Text;
 use xt_shapes::{Ext, Try};
 
 /// The annotations of the profile by their names. `Outside` stands for one that is known and not in the profile.
-#[derive(Clone, Copy, Debug)]
+#[derive(Clone, Copy)]
 pub(crate) enum Annotation {
     Final,
     Appendable,
@@ -64,7 +64,7 @@ const ANNOTATIONS: [(&'static [u8], Annotation); 30] = [
 ];
 
 /// What an annotation may have in parentheses.
-#[derive(Clone, Copy, Debug)]
+#[derive(Clone, Copy)]
 pub(crate) enum ParameterKind {
     Nothing,
     OneOf,

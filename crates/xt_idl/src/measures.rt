@@ -19,7 +19,7 @@ use xt_shapes::Prim;
 const TOO_DEEP: u64 = 17;
 
 /// What the members of a structure come to.
-#[derive(Debug, Clone, Copy)]
+#[derive(Clone, Copy)]
 pub(crate) struct MembersMeasure {
     pub(crate) depth: u64,
     pub(crate) nodes: u64,
@@ -32,7 +32,7 @@ pub(crate) struct MembersMeasure {
 }
 
 /// What the cases of a union come to.
-#[derive(Debug, Clone, Copy)]
+#[derive(Clone, Copy)]
 pub(crate) struct CasesMeasure {
     pub(crate) depth: u64,
     pub(crate) nodes: u64,
@@ -41,7 +41,7 @@ pub(crate) struct CasesMeasure {
 }
 
 /// The depth, the number of nodes and the weight of a type, each up to one more than a valid type may have, and which keys may have it.
-#[derive(Debug, Clone, Copy)]
+#[derive(Clone, Copy)]
 pub(crate) struct Measure {
     pub(crate) depth: u64,
     pub(crate) nodes: u64,

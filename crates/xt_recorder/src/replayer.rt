@@ -11,7 +11,7 @@ use type_trees::{HashId, XType};
 use xt_shapes::Rep;
 
 /// The stream that the samples belong to.
-#[derive(Debug, Clone, Copy, PartialEq, Eq)]
+#[derive(Clone, Copy, PartialEq, Eq)]
 pub(crate) struct Stream {
     pub(crate) rep: Rep,
     pub(crate) yes: bool,

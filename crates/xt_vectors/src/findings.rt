@@ -26,7 +26,7 @@ use xt_shapes::Order;
 use xt_wire::cursor::{DecodeFault, SliceCursor};
 
 /// What was found of a pair: that the reader's type isn't assignable from the writer's, or what the value is to the reader.
-#[derive(Debug, Clone, Copy)]
+#[derive(Clone, Copy)]
 pub(crate) enum Finding {
     No,
     Read,

@@ -15,7 +15,7 @@ use xt_lists::OutOfMemory;
 use xt_shapes::{Ext, Rep};
 
 /// A reader's type and a writer's, with a value of the writer's.
-#[derive(Debug, Drop)]
+#[derive(Drop)]
 pub(crate) struct Evolved {
     pub(crate) rep: Rep,
     pub(crate) reader: XType,

@@ -8,7 +8,7 @@ use xt_lists::{OutOfMemory, Row};
 use xt_shapes::{Ext, Rep, Try};
 
 /// What a member holds.
-#[derive(Debug, Clone, Copy)]
+#[derive(Clone, Copy)]
 pub(crate) enum Sort {
     Long,
     Octet,
@@ -23,7 +23,7 @@ pub(crate) enum Sort {
 }
 
 /// A member of a structure, without its type.
-#[derive(Debug, Clone, Copy)]
+#[derive(Clone, Copy)]
 pub(crate) struct Plan {
     pub(crate) id: u32,
     pub(crate) sort: Sort,

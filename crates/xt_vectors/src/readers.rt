@@ -9,7 +9,7 @@ use xt_lists::{OutOfMemory, Row};
 use xt_shapes::Try;
 
 /// How the reader's structure differs from the writer's.
-#[derive(Debug, Clone, Copy)]
+#[derive(Clone, Copy)]
 pub(crate) enum Change {
     Same,
     /// Without the last member, where there are two or more.

@@ -24,7 +24,7 @@ pub struct Summary {
     pub digest: [u8; 16],
 }
 
-#[derive(Debug, Clone, Copy)]
+#[derive(Clone, Copy)]
 struct Counts {
     yes: u32,
     no: u32,

@@ -1,5 +1,5 @@
 /// What is written in place of a leaf.
-#[derive(Debug, Clone, Copy, PartialEq, Eq)]
+#[derive(Clone, Copy, PartialEq, Eq)]
 pub(crate) enum Form {
     /// A number for the raw bits of a finite float.
     Numbers,

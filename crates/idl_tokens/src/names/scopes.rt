@@ -17,7 +17,7 @@ pub enum Meaning {
 }
 
 /// A scope by its number, and a name in it.
-#[derive(Debug, Clone, Copy, PartialEq, Eq, Hash)]
+#[derive(Clone, Copy, PartialEq, Eq, Hash)]
 pub(crate) struct Key<'a> {
     pub(crate) scope: usize,
     pub(crate) name: &'a [u8],

@@ -7,7 +7,7 @@ use std::alloc::Global;
 use std::marker::Model;
 use xt_lists::OutOfMemory;
 
-#[derive(Debug, Clone, Copy, PartialEq, Eq, Hash)]
+#[derive(Clone, Copy, PartialEq, Eq, Hash)]
 pub(crate) struct Word<'a> {
     pub(crate) octets: &'a [u8],
 }

@@ -21,7 +21,7 @@ pub(crate) fn has_key(members: &[Member]) -> bool
 }
 
 /// A counted member: its place and its id.
-#[derive(Debug, Clone, Copy, PartialEq, Eq)]
+#[derive(Clone, Copy, PartialEq, Eq)]
 pub(crate) struct Counted {
     pub(crate) at: usize,
     pub(crate) id: u32,

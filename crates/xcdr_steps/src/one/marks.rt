@@ -27,7 +27,7 @@ pub struct Marked {
 }
 
 // The first four octets of a header, and the place of the first.
-#[derive(Clone, Copy, Debug)]
+#[derive(Clone, Copy)]
 struct Opening {
     at: u64,
     octets: [u8; 4],
