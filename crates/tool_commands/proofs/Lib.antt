@@ -1,3 +1,4 @@
+pub mod OfRecordings
 pub mod OfListing
 pub mod Wrapped
 pub mod Quiet

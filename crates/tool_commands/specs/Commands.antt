@@ -10,8 +10,8 @@ use Rattle.tool_samples.specs.lines.Lines.{read_turn, convert_turn, write_turn}
 use Rattle.tool_samples.specs.instances.Instancing.{instances_body}
 use Rattle.tool_words.specs.Words.{Pair, Reference}
 use Rattle.tool_verdicts.specs.Verdicts.{id_and_pool, reader_type, top_and_pool, top_type}
-use Rattle.tool_recordings.specs.Recording.{opening_pieces, samples_recorded}
-use Rattle.tool_recordings.specs.Replaying.{replayed}
+use Rattle.tool_commands.specs.recordings.Recording.{opening_pieces, samples_recorded}
+use Rattle.tool_commands.specs.recordings.Replaying.{replayed}
 
 -- `judge`: one line, where the reader's type is assignable
 abbrev pub judge_lines : Pair → List Item → Result (List (List ℕ)) Refusal

@@ -1,3 +1,4 @@
+pub mod recordings
 pub mod listing
 pub mod Commands
 pub mod Wrapping

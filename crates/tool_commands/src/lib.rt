@@ -8,6 +8,7 @@ pub mod listing;
 mod making;
 mod reading;
 mod recording;
+pub mod recordings;
 mod replaying;
 mod wrapping;
 mod writing;

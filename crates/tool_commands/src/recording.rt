@@ -3,12 +3,12 @@ ghost use Rattle.xt_io.specs.Bundles.{nothing};
 ghost use Rattle.tool_runs.specs.output.Outputs.{Output, after_pieces, finished};
 ghost use Rattle.tool_runs.specs.output.Runs.{Comes, Steps, StopsWriting};
 ghost use Rattle.tool_runs.specs.front.Reading.{AreWithin};
-ghost use Rattle.tool_recordings.specs.Recording.{opening_pieces};
+ghost use Rattle.tool_commands.specs.recordings.Recording.{opening_pieces};
 ghost use Rattle.tool_words.specs.View.{reference_view};
 ghost use Rattle.tool_commands.specs.Commands.{record_records};
 
+use crate::recordings::Recorded;
 use std::alloc::Global;
-use tool_recordings::Recorded;
 use tool_runs::Prepares;
 use tool_runs::output::{Stop, Style, Turns};
 use tool_verdicts::id_and_pool;
@@ -24,7 +24,7 @@ pub struct Recording<'a> {
 }
 
 impl<'a> Prepares for Recording<'a> {
-    ghost use Rattle.tool_recordings.specs.Recording.{opening_pieces};
+    ghost use Rattle.tool_commands.specs.recordings.Recording.{opening_pieces};
 
     type Run = Recorded;
 

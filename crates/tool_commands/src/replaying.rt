@@ -4,8 +4,8 @@ ghost use Rattle.tool_runs.specs.front.Reading.{AreWithin};
 ghost use Rattle.tool_words.specs.View.{reference_view};
 ghost use Rattle.tool_commands.specs.Commands.{replay_lines};
 
+use crate::recordings::Replays;
 use std::alloc::Global;
-use tool_recordings::Replays;
 use tool_runs::Quiet;
 use tool_runs::output::{Stop, Style, Turns};
 use tool_verdicts::top_and_pool;

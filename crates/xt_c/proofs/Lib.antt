@@ -1,5 +1,1 @@
-pub mod OfBoxes
-pub mod TypesValues
-pub mod ReaderValues
 pub mod Told
-pub mod Crosses

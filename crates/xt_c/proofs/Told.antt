@@ -11,7 +11,8 @@ use Rattle.xt_calls.specs.Calls as calls
 use Rattle.xt_calls.specs.declared.words.Floats.{Floats}
 use Rattle.xt_calls.specs.Laws.{ValuesComeBack, CommandsAgree, Headline}
 use Rattle.xt_calls.specs.Opened.{front}
-use Rattle.xt_c.specs.Exports.{SaysIn, SaysAs, WritesIn, WritesAs, SaysShown, ShowsLine, ReadComesBack, Opens, OpensReader, AgreesWithCommands, ReadsProjections}
+use Rattle.xt_handles.specs.Handled.{SaysIn, SaysAs, SaysShown, Opens, OpensReader}
+use Rattle.xt_c.specs.Exports.{WritesIn, WritesAs, ShowsLine, ReadComesBack, AgreesWithCommands, ReadsProjections}
 
 writes_as : {A K X : Type 0} (asked : Option A) (view : Answer → X) (answer : A → K → Answer) (x : A → K → X) (kept : K) (old new : List ℕ) (needed status : ℕ) → ((a : A) (k : K) → view (answer a k) ≡ x a k) → SaysAs asked answer kept old new needed status → WritesAs asked view x kept old new needed status
 writes_as None view answer x kept old new needed status law says = says

@@ -10,22 +10,16 @@ ghost use Rattle.tool_samples.specs.lines.Lines.{converted, sample_line, written
 ghost use Rattle.xt_calls.specs.Calls as calls;
 ghost use Rattle.xt_calls.specs.Laws.{line_of, record_of, turn_of};
 ghost use Rattle.xt_calls.specs.Opened.{front};
+ghost use Rattle.xt_handles.specs.Handled as handled;
 ghost use Rattle.xt_c.specs.Exports as spec;
 
-mod boxes;
-mod held_reader;
-mod held_types;
-mod opening;
-mod samples;
-
-use held_reader::ReaderHandle;
-use held_types::TypesHandle;
-use opening::{hand_stop, keep_types, open_reader};
-use samples::{convert_in, read_in, write_in};
 use std::alloc::Global;
 use xt_calls::{
     CLOSED, MEMORY, Types, commands_agree, conversions_are_records, headline, lines_are_read,
     nothing, tell, values_come_back, writes_are_records,
+};
+use xt_handles::{
+    ReaderHandle, TypesHandle, convert_in, hand_stop, keep_types, open_reader, read_in, write_in,
 };
 
 /// Opens the types of a bundle, of which nothing but Notes comes behind the front. What the handle held is freed.
@@ -37,7 +31,7 @@ pub extern "C" fn xt_types_open(
     text: &mut [u8],
     needed: &mut usize,
 ) -> u32
-    ensures { spec.Opens front (calls.types_of bundle.now) types.new.held text.old text.new needed.new result }
+    ensures { handled.Opens front (calls.types_of bundle.now) types.new.held text.old text.new needed.new result }
 {
     match Types::open(alloc, bundle) {
         Ok(opened) => keep_types(alloc, types, opened, needed),
@@ -69,8 +63,8 @@ pub extern "C" fn xt_reader_open(
     text: &mut [u8],
     needed: &mut usize,
 ) -> u32
-    ensures opens { spec.OpensReader types.old.held reads.now writes.now rep flags reader.new.held text.old text.new needed.new result }
-    ensures rep { spec.HasRep rep reader.new.held }
+    ensures opens { handled.OpensReader types.old.held reads.now writes.now rep flags reader.new.held text.old text.new needed.new result }
+    ensures rep { handled.HasRep rep reader.new.held }
     ensures projections { spec.ReadsProjections types.old.held (calls.pair_of reads.now writes.now rep flags) reader.new.held }
     ensures kept { types.new.held ≡ types.old.held }
 {
@@ -98,7 +92,7 @@ pub extern "C" fn xt_read(
     text: &mut [u8],
     needed: &mut usize,
 ) -> u32
-    ensures says { spec.SaysShown (calls.floats_of flags) (λ r. calls.read_answer (tree r.ty) (read_sample r.rep (type_shape r.ty) sample.now)) reader.old.held text.old text.new needed.new result }
+    ensures says { handled.SaysShown (calls.floats_of flags) (λ r. calls.read_answer (tree r.ty) (read_sample r.rep (type_shape r.ty) sample.now)) reader.old.held text.old text.new needed.new result }
     ensures as_line { spec.ShowsLine (calls.floats_of flags) line_of (λ r. sample_line r.rep (tree r.ty) sample.now) reader.old.held text.old text.new needed.new result }
     ensures comes_back { spec.ReadComesBack reader.old.held }
     ensures kept { reader.new.held ≡ reader.old.held }
@@ -118,7 +112,7 @@ pub extern "C" fn xt_convert(
     out: &mut [u8],
     needed: &mut usize,
 ) -> u32
-    ensures says { spec.SaysIn (calls.rep_of to) (λ rep r. calls.converted_answer rep (tree r.ty) (read_sample r.rep (type_shape r.ty) sample.now)) reader.old.held out.old out.new needed.new result }
+    ensures says { handled.SaysIn (calls.rep_of to) (λ rep r. calls.converted_answer rep (tree r.ty) (read_sample r.rep (type_shape r.ty) sample.now)) reader.old.held out.old out.new needed.new result }
     ensures as_record { spec.WritesIn (calls.rep_of to) record_of (λ rep r. converted rep (tree r.ty) (read_sample r.rep (type_shape r.ty) sample.now)) reader.old.held out.old out.new needed.new result }
     ensures kept { reader.new.held ≡ reader.old.held }
 {
@@ -138,7 +132,7 @@ pub extern "C" fn xt_write(
     out: &mut [u8],
     needed: &mut usize,
 ) -> u32
-    ensures says { spec.SaysIn (calls.written_in to flags) (λ form r. calls.written_answer form.0 (tree r.ty) (calls.meaning form.1 (tree r.ty) json.now)) reader.old.held out.old out.new needed.new result }
+    ensures says { handled.SaysIn (calls.written_in to flags) (λ form r. calls.written_answer form.0 (tree r.ty) (calls.meaning form.1 (tree r.ty) json.now)) reader.old.held out.old out.new needed.new result }
     ensures as_record { (k : ℕ) → spec.WritesIn (calls.written_in to flags) (turn_of k) (λ form r. written form.0 (tree r.ty) k (calls.meaning form.1 (tree r.ty) json.now)) reader.old.held out.old out.new needed.new result }
     ensures kept { reader.new.held ≡ reader.old.held }
 {

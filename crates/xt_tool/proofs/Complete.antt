@@ -44,8 +44,8 @@ use Rattle.tool_types.specs.names.Names.{Meaning, typed, identified, meant, type
 use Rattle.tool_words.specs.Words.{Pair, Reference, Command, compile, judge, read, write, convert, show, wrap, instances, keep, replay, make, compare}
 use Rattle.tool_samples.specs.lines.Lines.{judged, json_refusal, unless_failed, written, read_turn, convert_turn, write_turn}
 use Rattle.tool_verdicts.specs.Verdicts.{NamedAreValid, assignable, reader_type}
-use Rattle.tool_recordings.specs.Recording.{opening_pieces, record_turn, samples_recorded}
-use Rattle.tool_recordings.specs.Replaying.{replay_turn, replayed, stepped}
+use Rattle.tool_commands.specs.recordings.Recording.{opening_pieces, record_turn, samples_recorded}
+use Rattle.tool_commands.specs.recordings.Replaying.{replay_turn, replayed, stepped}
 use Rattle.tool_samples.specs.instances.Instancing.{full, instances_body, instances_end, most_keys}
 use Rattle.tool_samples.specs.instances.Laws.{KeepsLast, has_place, kept_output, puts_of}
 use Rattle.tool_commands.specs.listing.Listing.{all_shown, all_texts, object_record}

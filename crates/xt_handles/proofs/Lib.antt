@@ -1,0 +1,4 @@
+pub mod OfBoxes
+pub mod TypesValues
+pub mod ReaderValues
+pub mod Crosses

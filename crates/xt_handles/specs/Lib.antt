@@ -1,0 +1,4 @@
+pub mod boxes
+pub mod TypesHeld
+pub mod ReaderHeld
+pub mod Handled
