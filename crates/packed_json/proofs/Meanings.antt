@@ -2,11 +2,10 @@
 use Rattle.std.proofs.Common.{◌≡◌, List, map, rules, Box, Global}
 use Rattle.xt_shapes.specs.declared.leaves.Primitive.{Primitive}
 use Rattle.json_values.specs.Written.{int_data, prim_data, mask_data, octets_data}
-use Rattle.packed_json.specs.declared.plan.Named.{Named}
 use Rattle.packed_json.specs.declared.plan.Plan as p
 use Rattle.packed_json.specs.declared.plan.Plan.{Plan, the_lemmas}
 use Rattle.packed_json.specs.declared.plan.PlannedMember.{PlannedMember}
-use Rattle.packed_json.specs.Plans.{meaning, part, leaf_meaning, literal_meaning, list_meaning, struct_meaning}
+use Rattle.packed_json.specs.Plans.{Named, meaning, part, leaf_meaning, literal_meaning, list_meaning, struct_meaning}
 
 pub plan_prim : (x : Primitive) → meaning (p.Prim x) ≡ leaf_meaning (int_data (prim_data x))
 plan_prim x = search (rules, the_lemmas)
@@ -17,8 +16,8 @@ plan_text = search (rules, the_lemmas)
 pub plan_mask : meaning p.Mask ≡ leaf_meaning (int_data mask_data)
 plan_mask = search (rules, the_lemmas)
 
-pub plan_enum : (xs : List Named) → meaning (p.Enum xs) ≡ literal_meaning xs
-plan_enum xs = search (rules, the_lemmas)
+pub plan_enum : (names : Named) → meaning (p.Enum names) ≡ literal_meaning names
+plan_enum names = search (rules, the_lemmas)
 
 pub plan_list : (b : Box Plan Global) → meaning (p.List b) ≡ list_meaning (meaning b.value)
 plan_list b = search (rules, the_lemmas)

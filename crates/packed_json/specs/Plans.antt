@@ -1,7 +1,8 @@
 -- What a plan says of a value's JSON (this profile's own).
-use Rattle.std.specs.Prelude.{◌≡◌, ℕ, zero, suc, ℤ, List, [], ◌∷◌, ◌++◌, Bool, true, false, ◌&&◌, ◌||◌, cond, if◌then◌else◌, drop, Option, Some, None, slice_get}
+use Rattle.std.specs.Prelude.{◌≡◌, ℕ, zero, suc, ℤ, List, [], ◌∷◌, ◌++◌, Bool, true, false, ◌&&◌, if◌then◌else◌, drop, Option, Some, None, slice_get}
 use Rattle.std.specs.Borrow.{Bor}
-use Rattle.std.specs.Ordering.{int_eq}
+use Rattle.std.specs.BTreeMap.{BTreeMap, get}
+use Rattle.std.specs.Ordering.{int_cmp}
 use Rattle.json.specs.Print.{quoted}
 use Rattle.serde_json.specs.Data as json
 use Rattle.serde_json.specs.Data.{Data, put}
@@ -14,7 +15,6 @@ use Rattle.type_trees.specs.View.{tree}
 use Rattle.json_values.specs.Names.{name_text}
 use Rattle.json_values.specs.Order.{slot_data}
 use Rattle.json_values.specs.Written.{int_data, prim_data, mask_data, octets_data, literal_data, list_data, data_of, json_text}
-use Rattle.packed_json.specs.declared.plan.Named.{Named}
 use Rattle.packed_json.specs.declared.plan.Plan.{Plan, fold-Plan}
 use Rattle.packed_json.specs.declared.plan.Plan.TheOpen.{Plan-F, PlannedMember-F}
 use Rattle.packed_json.specs.declared.plan.PlannedMember.{PlannedMember, fold-PlannedMember}
@@ -35,24 +35,28 @@ pub record Part : Type 0 where
 abbrev pub leaf_meaning : (Val → Data) → Meaning
 leaf_meaning f = record { text = λ v. compact_text (f v); fits = λ v. true }
 
-abbrev pub named_text : List Named → ℤ → List ℕ
-named_text [] n = []
-named_text (x ∷ xs) n = cond (int_eq x.value n) x.text (named_text xs n)
+-- names in quotes, by the values of the literals
+abbrev pub Named : Type 0
+Named = BTreeMap ℤ (List ℕ)
 
-abbrev pub has_name : List Named → ℤ → Bool
-has_name [] n = false
-has_name (x ∷ xs) n = int_eq x.value n || has_name xs n
+abbrev pub found_text : Option (List ℕ) → List ℕ
+found_text None = []
+found_text (Some name) = name
 
-abbrev pub literal_text : List Named → Val → List ℕ
-literal_text xs (int n) = named_text xs n
-literal_text xs _ = []
+abbrev pub is_found : Option (List ℕ) → Bool
+is_found None = false
+is_found (Some name) = true
 
-abbrev pub is_literal : List Named → Val → Bool
-is_literal xs (int n) = has_name xs n
-is_literal xs _ = false
+abbrev pub literal_text : Named → Val → List ℕ
+literal_text names (int n) = found_text (get int_cmp names n)
+literal_text names _ = []
 
-abbrev pub literal_meaning : List Named → Meaning
-literal_meaning xs = record { text = literal_text xs; fits = is_literal xs }
+abbrev pub is_literal : Named → Val → Bool
+is_literal names (int n) = is_found (get int_cmp names n)
+is_literal names _ = false
+
+abbrev pub literal_meaning : Named → Meaning
+literal_meaning names = record { text = literal_text names; fits = is_literal names }
 
 -- ---- lists
 
@@ -139,7 +143,7 @@ abbrev pub plan_level : PlanLevel Plan-F → Meaning
 plan_level (Plan-F.Prim p) = leaf_meaning (int_data (prim_data p))
 plan_level Plan-F.Text = leaf_meaning octets_data
 plan_level Plan-F.Mask = leaf_meaning (int_data mask_data)
-plan_level (Plan-F.Enum xs) = literal_meaning xs
+plan_level (Plan-F.Enum names) = literal_meaning names
 plan_level (Plan-F.List m) = list_meaning m.value
 plan_level (Plan-F.Struct ps) = struct_meaning ps
 
@@ -214,8 +218,8 @@ abbrev pub PlansMembers : List Member → List Entry → List Part → Type 0
 PlansMembers ms es ps = (ss : Slots) → parts_fit ps ss ≡ true → parts_text ps false ss closing ≡ members_text false (entries_by (is_there_at ss) (body_at ms ss) es)
 
 -- the texts of literals are their names in quotes
-abbrev pub PlansLiterals : List Literal → List Named → Type 0
-PlansLiterals ls xs = (n : ℤ) → has_name xs n ≡ true → named_text xs n ≡ compact_text (literal_data ls n)
+abbrev pub PlansLiterals : List Literal → Named → Type 0
+PlansLiterals ls names = (n : ℤ) → is_found (get int_cmp names n) ≡ true → found_text (get int_cmp names n) ≡ compact_text (literal_data ls n)
 
 -- the items of a list, with the closing bracket
 pub record WritesItems (m : Meaning) (vs : List Val) (old new : List ℕ) : Type 0 where

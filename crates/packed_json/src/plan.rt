@@ -20,19 +20,12 @@ pub enum Plan {
     Prim(Prim),
     Text,
     Mask,
-    /// The literals of an enumeration.
-    Enum(Row<Named>),
+    /// The names of an enumeration's literals, in quotes, by their values.
+    Enum(BTreeMap<i128, Text>),
     /// The items of a sequence or of an array.
     List(Box<Plan>),
     /// The members of a structure, in the order of their names.
     Struct(Row<PlannedMember>),
-}
-
-/// A literal's value, and its name in quotes.
-#[derive(Debug, Drop)]
-pub struct Named {
-    pub value: i32,
-    pub text: Text,
 }
 
 /// A member: its position in declared order, what stands before its value (a comma, its name in quotes and a colon; the first member that is
@@ -57,17 +50,18 @@ fn quoted_name(alloc: Global, name: &Name) -> Option<Text>
     Some(text)
 }
 
-// The names of literals, in quotes.
-fn plan_literals(alloc: Global, literals: &[Literal]) -> Option<Row<Named>>
+// The names of literals, in quotes, by their values.
+fn plan_literals(alloc: Global, literals: &[Literal]) -> Option<BTreeMap<i128, Text>>
     ensures { IfSome result (λ named. PlansLiterals literals.now named) }
 {
-    let mut named = Row::new(alloc);
-    for literal in literals {
+    let mut named = BTreeMap::new(alloc);
+    let mut at = literals.len();
+    // from the last, so that the first literal with a value is kept
+    'literals: while at > 0 {
+        at -= 1;
+        let literal = &literals[at];
         let text = quoted_name(alloc, &literal.name)?;
-        let Ok(()) = named.push(Named {
-            value: literal.value,
-            text,
-        }) else {
+        let Ok(_) = named.insert(i128::from(literal.value), text) else {
             return None;
         };
     }

@@ -7,9 +7,10 @@ ghost use Rattle.packed_reader.specs.View.{packed_val, packed_slot, numbers_of};
 ghost use Rattle.packed_json.specs.Plans.{Writes, WritesItems, WritesPart, WritesParts, key_behind, leaf_meaning, list_meaning, literal_meaning, meaning, part, slot_at, struct_meaning};
 
 use crate::numbers::{put_list, put_prim, put_whole};
-use crate::plan::{Named, Plan, PlannedMember};
+use crate::plan::{Plan, PlannedMember};
 use crate::texts::{put, put_comma, put_text};
 use packed_reader::{Numbers, Packed, PackedSlot};
+use std::collections::BTreeMap;
 use type_values::is_of_prim;
 use xt_lists::Text;
 use xt_shapes::Prim;
@@ -30,15 +31,13 @@ fn write_mask(number: i128, out: &mut Text) -> Option<()>
     put_whole(number, out)
 }
 
-fn write_literal(named: &[Named], number: i128, out: &mut Text) -> Option<()>
+fn write_literal(named: &BTreeMap<i128, Text>, number: i128, out: &mut Text) -> Option<()>
     ensures { IfSome result (λ u. Writes (literal_meaning named.now) (int number) out.old out.new) }
 {
-    for literal in named {
-        if i128::from(literal.value) == number {
-            return put(literal.text.octets(), out);
-        }
+    match named.get(&number) {
+        Some(text) => put(text.octets(), out),
+        None => None,
     }
-    None
 }
 
 pub(crate) fn write_text(octets: &[u8], out: &mut Text) -> Option<()>
@@ -55,7 +54,7 @@ pub(crate) fn write_integer(plan: &Plan, number: i128, out: &mut Text) -> Option
     match plan {
         Plan::Prim(prim) => write_number(*prim, number, out),
         Plan::Mask => write_mask(number, out),
-        Plan::Enum(named) => write_literal(named.as_slice(), number, out),
+        Plan::Enum(named) => write_literal(named, number, out),
         Plan::Text | Plan::List(_) | Plan::Struct(_) => None,
     }
 }

@@ -1,6 +1,10 @@
-use Rattle.std.proofs.Common.{drop}
-use Rattle.packed_json.proofs.ListLaws.{GoesLiterals}
+use Rattle.std.proofs.Common.{◌≤◌, length, drop}
+use Rattle.packed_json.specs.Plans.{PlansLiterals}
 use Rattle.packed_json.proofs.plan.plan_literals.Given as goal
 
-abbrev pub invariant-loop-literal : goal.invariant-loop-literal
-invariant-loop-literal l = GoesLiterals l.literals (drop l.literal-index l.literals) l.named
+-- the literals from there on have their names
+abbrev pub invariant-literals : goal.invariant-literals
+invariant-literals l = (l.at ≤ length l.literals) × PlansLiterals (drop l.at l.literals) l.named
+
+abbrev pub decreases-literals : goal.decreases-literals
+decreases-literals l = l.at
