@@ -9,8 +9,8 @@ use crate::parts::{hashed, headed, noted, put_each, referred, settled};
 use crate::samples::{body_read, sample_again, sample_read, told};
 use crate::trouble::Trouble;
 use crate::values::{
-    given_value, json_of, json_told, pairs_of, parsed, string_of, taped_value, type_of, types_of,
-    value_of,
+    given_value, json_of, json_told, pairs_of, parsed, planned_json, string_of, taped_value,
+    type_of, types_of, value_of,
 };
 use crate::writing::{body_written, rep_of, sample_faults, sample_written, text_size};
 use assignability::{equivalent, judge, judge_under};
@@ -42,6 +42,7 @@ pub fn answer(alloc: Global, call: &str, case: &Case<'_>) -> Result<Answer, Trou
         "keys" => same_keys(alloc, case),
         "json" => json(alloc, case),
         "taped" => taped(alloc, case),
+        "planned" => planned(alloc, case),
         "get" => got(alloc, words, case),
         "judge" => judged(alloc, words, case),
         "equivalent" => equal(alloc, case),
@@ -187,6 +188,16 @@ fn taped(alloc: Global, case: &Case<'_>) -> Result<Answer, Trouble> {
     let ty = type_of(alloc, case.ty)?;
     match taped_value(alloc, &ty, case.value) {
         Some(value) => json_told(alloc, &ty, &value),
+        None => Ok(Answer::Word("none")),
+    }
+}
+
+/// The JSON of the value by the plan of its type, or `none`.
+fn planned(alloc: Global, case: &Case<'_>) -> Result<Answer, Trouble> {
+    let ty = type_of(alloc, case.ty)?;
+    let value = given_value(alloc, case)?;
+    match planned_json(alloc, &ty, &value) {
+        Some(text) => Ok(Answer::Text(string_of(alloc, &text)?)),
         None => Ok(Answer::Word("none")),
     }
 }

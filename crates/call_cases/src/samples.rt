@@ -8,11 +8,11 @@ use crate::cases::Case;
 use crate::trouble::Trouble;
 use crate::values::{json_of, type_of};
 use crate::writing::{hex_of, rep_of, sample_octets};
-use settled_parts::Outcome;
+use settled_parts::{Guide, Outcome};
 use std::alloc::Global;
 use type_trees::{Value, XType};
-use xcdr_reader::{decode1, decode2};
-use xcdr_samples::{read_sample1, read_sample2};
+use xcdr_reader::{decode_guided, decode1, decode2};
+use xcdr_samples::{read_guided, read_sample1, read_sample2};
 use xt_io::{BundleReader, Kind, MemSink, MemSource, write_record};
 use xt_shapes::{Order, Rep};
 use xt_wire::cursor::{Cursor, DecodeFault, SliceCursor};
@@ -156,19 +156,33 @@ fn is_read_from_each(
     Ok(true)
 }
 
-/// What the octets are read as by a cursor over memory, where cursors over streams say the same.
+/// What the octets are read as by a guide of the type.
+fn guided(alloc: Global, rep: Rep, ty: &XType, payload: &[u8]) -> Result<Answer, Trouble>
+    requires { type_fault (tree ty.now) ≡ None }
+{
+    let guide = Guide::of(alloc, ty);
+    let mut cursor = SliceCursor::new(payload);
+    let outcome = read_guided(alloc, rep, ty, &guide, &mut cursor);
+    answer_of(alloc, ty, outcome)
+}
+
+/// What the octets are read as by a cursor over memory, where cursors over streams and a guide of the type say the same.
 fn payload_read(alloc: Global, rep: Rep, ty: &XType, payload: &[u8]) -> Result<Answer, Trouble>
     requires { type_fault (tree ty.now) ≡ None }
 {
     let mut cursor = SliceCursor::new(payload);
     let answer = answer_of(alloc, ty, sample_of(alloc, rep, ty, &mut cursor))?;
+    if guided(alloc, rep, ty, payload)?.as_str() != answer.as_str() {
+        return Ok(Answer::Word("another answer by a guide"));
+    }
     if is_read_from_each(alloc, rep, ty, payload, answer.as_str())? {
         return Ok(answer);
     }
     Ok(Answer::Word("another answer from a stream"))
 }
 
-/// What the octets are read as by a cursor over memory, where cursors over streams of 1, 2, 3 and 7 octets a call say the same.
+/// What the octets are read as by a cursor over memory, where a guide of the type and cursors over streams of 1, 2, 3 and 7 octets a call say
+/// the same.
 pub fn sample_read(alloc: Global, words: &str, case: &Case<'_>) -> Result<Answer, Trouble> {
     let rep = rep_named(words)?;
     let ty = type_of(alloc, case.ty)?;
@@ -213,8 +227,19 @@ fn is_left(
     }
 }
 
-/// What the octets are read as by `decode1` or `decode2`, little-endian, without an encapsulation. Where a value is read, a cursor over a
-/// stream leaves the octets behind it too.
+/// What a body is read as by a guide of the type.
+fn body_guided(alloc: Global, rep: Rep, ty: &XType, body: &[u8]) -> Result<Answer, Trouble>
+    requires { type_fault (tree ty.now) ≡ None }
+{
+    let guide = Guide::of(alloc, ty);
+    let mut cursor = SliceCursor::new(body);
+    cursor.set_order(Order::Little);
+    let outcome = decode_guided(alloc, rep, ty, &guide, &mut cursor);
+    answer_of(alloc, ty, outcome)
+}
+
+/// What the octets are read as by `decode1` or `decode2`, little-endian, without an encapsulation, where a guide of the type says the same.
+/// Where a value is read, a cursor over a stream leaves the octets behind it too.
 pub fn body_read(alloc: Global, words: &str, case: &Case<'_>) -> Result<Answer, Trouble> {
     let rep = rep_named(words)?;
     let ty = type_of(alloc, case.ty)?;
@@ -230,6 +255,9 @@ fn body_told(alloc: Global, rep: Rep, ty: &XType, body: &[u8]) -> Result<Answer,
     let (_, left) = body.split_at((cursor.place() as usize).min(body.len()));
     let is_read = outcome.is_ok();
     let answer = answer_of(alloc, ty, outcome)?;
+    if body_guided(alloc, rep, ty, body)?.as_str() != answer.as_str() {
+        return Ok(Answer::Word("another answer by a guide"));
+    }
     if is_read && !is_left(alloc, rep, ty, body, 3, left)? {
         return Ok(Answer::Word("other octets are left of a stream"));
     }

@@ -8,7 +8,7 @@ use crate::cases::Case;
 use crate::trouble::Trouble;
 use dynamic_data::{from_json, to_json};
 use json::Scratch;
-use packed_json::read_taped;
+use packed_json::{plan_of, read_taped, write_tree};
 use packed_writer::write_plain;
 use settled_parts::Outcome;
 use std::alloc::Global;
@@ -143,6 +143,14 @@ pub fn json_of(alloc: Global, ty: &XType, value: &Value) -> Result<String, Troub
     requires { type_fault (tree ty.now) ≡ None }
 {
     string_of(alloc, &to_json(alloc, ty, value)?)
+}
+
+/// The JSON of a value by the plan of its type, if it gives one.
+pub fn planned_json(alloc: Global, ty: &XType, value: &Value) -> Option<Text> {
+    let plan = plan_of(alloc, ty)?;
+    let mut text = Text::new(alloc);
+    write_tree(&plan, value, &mut text)?;
+    Some(text)
 }
 
 /// The JSON of a value, as an answer.

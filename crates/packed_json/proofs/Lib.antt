@@ -5,6 +5,8 @@ pub mod HexDigits
 pub mod Orders
 pub mod Structures
 pub mod ListLaws
+pub mod MapLaws
+pub mod UnionLaws
 pub mod Numbered
 pub mod OfTapes
 pub mod Rows

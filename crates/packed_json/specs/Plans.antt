@@ -1,5 +1,5 @@
 -- What a plan says of a value's JSON (this profile's own).
-use Rattle.std.specs.Prelude.{◌≡◌, ℕ, zero, suc, ℤ, List, [], ◌∷◌, ◌++◌, Bool, true, false, ◌&&◌, if◌then◌else◌, drop, Option, Some, None, slice_get}
+use Rattle.std.specs.Prelude.{◌≡◌, ℕ, zero, suc, ℤ, List, [], ◌∷◌, ◌++◌, Bool, true, false, ◌&&◌, if◌then◌else◌, drop, Option, Some, None, option_and_then, slice_get, ⊤}
 use Rattle.std.specs.Borrow.{Bor}
 use Rattle.std.specs.BTreeMap.{BTreeMap, get}
 use Rattle.std.specs.Ordering.{int_cmp}
@@ -7,7 +7,10 @@ use Rattle.json.specs.Print.{quoted}
 use Rattle.serde_json.specs.Data as json
 use Rattle.serde_json.specs.Data.{Data, put}
 use Rattle.serde_json.specs.Written.{compact_text, members_text, comma_if}
-use Rattle.xt_shapes.specs.Vals.{Val, int, listed, struct_of, Vals, no_vals, one_val, vals_of, Slots, no_slots, one_slot, Slot, absent, present}
+use Rattle.xt_shapes.specs.Vals.{Val, int, listed, mapped, struct_of, union_of, Vals, no_vals, one_val, vals_of, Pairs, no_pairs, one_pair, pairs_of, Slots, no_slots, one_slot, Slot, absent, present}
+use Rattle.settled_parts.specs.declared.guides.CaseIndex.{CaseIndex}
+use Rattle.settled_parts.specs.Guides.{found_at}
+use Rattle.type_trees.specs.declared.types.Case.{Case}
 use Rattle.type_trees.specs.declared.types.Literal.{Literal}
 use Rattle.type_trees.specs.declared.types.Member.{Member}
 use Rattle.type_trees.specs.Trees.{Tree}
@@ -16,7 +19,7 @@ use Rattle.json_values.specs.Names.{name_text}
 use Rattle.json_values.specs.Order.{slot_data}
 use Rattle.json_values.specs.Written.{int_data, prim_data, mask_data, octets_data, literal_data, list_data, data_of, json_text}
 use Rattle.packed_json.specs.declared.plan.Plan.{Plan, fold-Plan}
-use Rattle.packed_json.specs.declared.plan.Plan.TheOpen.{Plan-F, PlannedMember-F}
+use Rattle.packed_json.specs.declared.plan.Plan.TheOpen.{Plan-F, PlannedMap-F, PlannedMember-F, PlannedUnion-F}
 use Rattle.packed_json.specs.declared.plan.PlannedMember.{PlannedMember, fold-PlannedMember}
 
 -- the text of a value that fits
@@ -80,6 +83,32 @@ list_fits f _ = false
 abbrev pub list_meaning : Meaning → Meaning
 list_meaning m = record { text = list_text m.text; fits = list_fits m.fits }
 
+-- ---- maps
+
+-- a key and its value, in brackets
+abbrev pub pair_text : List ℕ → List ℕ → List ℕ
+pair_text k v = 91 ∷ (k ++ 44 ∷ (v ++ 93 ∷ []))
+
+-- pairs behind others or none, and the closing bracket
+abbrev pub pairs_text : (Val → List ℕ) → (Val → List ℕ) → Bool → Pairs → List ℕ
+pairs_text f g later no_pairs = 93 ∷ []
+pairs_text f g later (one_pair k v ps) = comma_if later ++ (pair_text (f k) (g v) ++ pairs_text f g true ps)
+
+abbrev pub pairs_fit : (Val → Bool) → (Val → Bool) → Pairs → Bool
+pairs_fit f g no_pairs = true
+pairs_fit f g (one_pair k v ps) = (f k && g v) && pairs_fit f g ps
+
+abbrev pub map_text : (Val → List ℕ) → (Val → List ℕ) → Val → List ℕ
+map_text f g (mapped ps) = 91 ∷ pairs_text f g false ps
+map_text f g _ = []
+
+abbrev pub map_fits : (Val → Bool) → (Val → Bool) → Val → Bool
+map_fits f g (mapped ps) = pairs_fit f g ps
+map_fits f g _ = false
+
+abbrev pub map_meaning : Meaning → Meaning → Meaning
+map_meaning k v = record { text = map_text k.text v.text; fits = map_fits k.fits v.fits }
+
 -- ---- structures
 
 abbrev pub slot_at : Slots → ℕ → Slot
@@ -132,12 +161,48 @@ struct_fits ps _ = false
 abbrev pub struct_meaning : List Part → Meaning
 struct_meaning ps = record { text = struct_text ps; fits = struct_fits ps }
 
+-- ---- unions
+
+-- the case that a discriminator's number selects
+abbrev pub found_case : CaseIndex → List Meaning → ℤ → Option Meaning
+found_case index ms n = option_and_then (slice_get ms) (found_at index n)
+
+-- what stands before a discriminator: `{"d":`
+abbrev pub before_disc : List ℕ
+before_disc = 123 ∷ 34 ∷ 100 ∷ 34 ∷ 58 ∷ []
+
+-- what stands before the value of a case: `,"v":`
+abbrev pub before_value : List ℕ
+before_value = 44 ∷ 34 ∷ 118 ∷ 34 ∷ 58 ∷ []
+
+-- the value of the case, if it is there, and the closing brace
+abbrev pub body_text : Option Meaning → Slot → List ℕ
+body_text found absent = 125 ∷ []
+body_text None (present v) = 125 ∷ []
+body_text (Some m) (present v) = before_value ++ (m.text v ++ 125 ∷ [])
+
+abbrev pub body_fits : Option Meaning → Slot → Bool
+body_fits found absent = true
+body_fits None (present v) = false
+body_fits (Some m) (present v) = m.fits v
+
+abbrev pub union_text : Meaning → (ℤ → Option Meaning) → Val → List ℕ
+union_text d find (union_of n b) = before_disc ++ (d.text (int n) ++ body_text (find n) b)
+union_text d find _ = []
+
+abbrev pub union_fits : Meaning → (ℤ → Option Meaning) → Val → Bool
+union_fits d find (union_of n b) = d.fits (int n) && body_fits (find n) b
+union_fits d find _ = false
+
+abbrev pub union_meaning : Meaning → CaseIndex → List Meaning → Meaning
+union_meaning d index ms = record { text = union_text d (found_case index ms); fits = union_fits d (found_case index ms) }
+
 -- ---- plans
 
 -- One level of a plan.
-module _ (F : Type 0 → Type 0 → Type 0) where
+module _ (F : Type 0 → Type 0 → Type 0 → Type 0 → Type 0) where
   abbrev pub PlanLevel : Type 0
-  PlanLevel = F Meaning Part
+  PlanLevel = F Meaning Meaning Part Meaning
 
 abbrev pub plan_level : PlanLevel Plan-F → Meaning
 plan_level (Plan-F.Prim p) = leaf_meaning (int_data (prim_data p))
@@ -145,16 +210,24 @@ plan_level Plan-F.Text = leaf_meaning octets_data
 plan_level Plan-F.Mask = leaf_meaning (int_data mask_data)
 plan_level (Plan-F.Enum names) = literal_meaning names
 plan_level (Plan-F.List m) = list_meaning m.value
+plan_level (Plan-F.Map m) = m.value
 plan_level (Plan-F.Struct ps) = struct_meaning ps
+plan_level (Plan-F.Union u) = u.value
+
+abbrev pub map_level : PlanLevel PlannedMap-F → Meaning
+map_level m = map_meaning m.key m.value
 
 abbrev pub member_level : PlanLevel PlannedMember-F → Part
 member_level m = record { at = m.at; key = m.key; value = m.plan }
 
+abbrev pub union_level : PlanLevel PlannedUnion-F → Meaning
+union_level u = union_meaning u.disc u.index u.cases
+
 abbrev pub meaning : Plan → Meaning
-meaning = fold-Plan _ _ plan_level member_level
+meaning = fold-Plan _ _ _ _ plan_level map_level member_level union_level
 
 abbrev pub part : PlannedMember → Part
-part = fold-PlannedMember _ _ plan_level member_level
+part = fold-PlannedMember _ _ _ _ plan_level map_level member_level union_level
 
 -- ---- the plan of a type
 
@@ -217,6 +290,12 @@ body_at ms ss at = member_data (slice_get ms at) (slot_at ss at)
 abbrev pub PlansMembers : List Member → List Entry → List Part → Type 0
 PlansMembers ms es ps = (ss : Slots) → parts_fit ps ss ≡ true → parts_text ps false ss closing ≡ members_text false (entries_by (is_there_at ss) (body_at ms ss) es)
 
+-- each plan is that of the case at its place
+abbrev pub PlansCases : List Case → List Meaning → Type 0
+PlansCases cs [] = ⊤
+PlansCases [] (m ∷ ms) = ⊥
+PlansCases (c ∷ cs) (m ∷ ms) = IsPlanOf (tree c.ty) m × PlansCases cs ms
+
 -- the texts of literals are their names in quotes
 abbrev pub PlansLiterals : List Literal → Named → Type 0
 PlansLiterals ls names = (n : ℤ) → is_found (get int_cmp names n) ≡ true → found_text (get int_cmp names n) ≡ compact_text (literal_data ls n)
@@ -225,6 +304,22 @@ PlansLiterals ls names = (n : ℤ) → is_found (get int_cmp names n) ≡ true �
 pub record WritesItems (m : Meaning) (vs : List Val) (old new : List ℕ) : Type 0 where
   pub fit : vals_fit m.fits (vals_of vs) ≡ true
   pub text : new ≡ old ++ vals_text m.text false (vals_of vs)
+
+-- a key and its value, in brackets
+pub record WritesPair (k v : Meaning) (p : Val × Val) (old new : List ℕ) : Type 0 where
+  pub key : k.fits p.0 ≡ true
+  pub value : v.fits p.1 ≡ true
+  pub text : new ≡ old ++ pair_text (k.text p.0) (v.text p.1)
+
+-- the pairs of a map, with the closing bracket
+pub record WritesPairs (k v : Meaning) (ps : List (Val × Val)) (old new : List ℕ) : Type 0 where
+  pub fit : pairs_fit k.fits v.fits (pairs_of ps) ≡ true
+  pub text : new ≡ old ++ pairs_text k.text v.text false (pairs_of ps)
+
+-- the value of the case, if it is there, and the closing brace
+pub record WritesBody (found : Option Meaning) (b : Slot) (old new : List ℕ) : Type 0 where
+  pub fits : body_fits found b ≡ true
+  pub text : new ≡ old ++ body_text found b
 
 -- a member's value and what stands before it, behind others or none; or nothing, where it is absent
 pub record WritesPart (p : Part) (later : Bool) (ss : Slots) (old new : List ℕ) (now : Bool) : Type 0 where

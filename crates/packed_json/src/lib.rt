@@ -11,7 +11,7 @@ mod texts;
 mod trees;
 mod writing;
 
-pub use plan::{Plan, PlannedMember, plan_of};
+pub use plan::{Plan, PlannedMap, PlannedMember, PlannedUnion, plan_of};
 pub use tapes::read_taped;
 pub use trees::write_tree;
 pub use writing::write_value;

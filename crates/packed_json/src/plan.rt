@@ -1,15 +1,19 @@
-//! What is settled of a type once: in which order its members' names come, and what stands before each value.
+//! What is settled of a type once: in which order its members' names come, what stands before each value, and which case of a union a number
+//! selects.
 ghost use Rattle.std.specs.Prelude.{◌≡◌, ◌<◌, ◌++◌, ◌∷◌, [], ℕ, Bool, length, map, IfSome};
 ghost use Rattle.json.specs.Print.{quoted};
 ghost use Rattle.serde_json.specs.Data.{Data};
-ghost use Rattle.type_trees.specs.View.{tree, struct_tree};
+ghost use Rattle.type_trees.specs.View.{tree, map_tree, struct_tree, union_tree};
 ghost use Rattle.json_values.specs.Names.{name_text};
-ghost use Rattle.packed_json.specs.Plans.{IsPlanOf, IsPlanned, IsOrderOf, PlansMembers, PlansLiterals, IsListPlanOf, entries_by, put_if, key_text, meaning, part, struct_meaning, list_meaning, literal_meaning};
+ghost use Rattle.packed_json.specs.Plans.{IsPlanOf, IsPlanned, IsOrderOf, PlansMembers, PlansCases, PlansLiterals, IsListPlanOf, entries_by, put_if, key_text, meaning, part, struct_meaning, list_meaning, literal_meaning};
 
 use crate::texts::{put, put_quoted};
+use settled_parts::CaseIndex;
 use std::alloc::Global;
 use std::collections::BTreeMap;
-use type_trees::{Elem, EnumType, Literal, Member, Name, StructType, XType};
+use type_trees::{
+    Case, Elem, EnumType, Literal, MapType, Member, Name, StructType, UnionType, XType,
+};
 use xt_lists::{Row, Text};
 use xt_shapes::Prim;
 
@@ -24,8 +28,29 @@ pub enum Plan {
     Enum(BTreeMap<i128, Text>),
     /// The items of a sequence or of an array.
     List(Box<Plan>),
+    /// The pairs of a map.
+    Map(Box<PlannedMap>),
     /// The members of a structure, in the order of their names.
     Struct(Row<PlannedMember>),
+    /// The discriminator of a union and the value of the case that it selects.
+    Union(Box<PlannedUnion>),
+}
+
+/// How the keys of a map are written, and how the values.
+#[derive(Debug, Drop)]
+#[cycle(plan)]
+pub struct PlannedMap {
+    pub key: Plan,
+    pub value: Plan,
+}
+
+/// How the discriminator of a union is written, which case its number selects, and how the value of each case is written, in declared order.
+#[derive(Debug, Drop)]
+#[cycle(plan)]
+pub struct PlannedUnion {
+    pub disc: Plan,
+    pub index: CaseIndex,
+    pub cases: Row<Plan>,
 }
 
 /// A member: its position in declared order, what stands before its value (a comma, its name in quotes and a colon; the first member that is
@@ -154,7 +179,49 @@ fn plan_list(alloc: Global, elem: &Elem) -> Option<Plan>
     }
 }
 
-/// The plan of a type. None says nothing: the type has a part that no plan is made of, or memory is wanting.
+#[cycle(planning)]
+fn plan_map(alloc: Global, kind: &MapType) -> Option<Plan>
+    ensures { IfSome result (λ plan. IsPlanOf (map_tree kind.now) (meaning plan)) }
+{
+    let key = plan_of(alloc, &kind.key.ty)?;
+    let value = plan_of(alloc, &kind.value.ty)?;
+    match Box::new(alloc, PlannedMap { key, value }) {
+        Ok(planned) => Some(Plan::Map(planned)),
+        Err(_) => None,
+    }
+}
+
+#[cycle(planning)]
+fn plan_cases(alloc: Global, cases: &[Case]) -> Option<Row<Plan>>
+    ensures { IfSome result (λ planned. PlansCases cases.now (map meaning planned)) }
+{
+    let mut planned = Row::new(alloc);
+    for case in cases {
+        let plan = plan_of(alloc, &case.ty)?;
+        let Ok(()) = planned.push(plan) else {
+            return None;
+        };
+    }
+    Some(planned)
+}
+
+#[cycle(planning)]
+fn plan_union(alloc: Global, kind: &UnionType) -> Option<Plan>
+    ensures { IfSome result (λ plan. IsPlanOf (union_tree kind.now) (meaning plan)) }
+{
+    let disc = plan_of(alloc, &kind.disc)?;
+    let Ok(index) = CaseIndex::of(alloc, kind.cases.as_slice()) else {
+        return None;
+    };
+    let cases = plan_cases(alloc, kind.cases.as_slice())?;
+    match Box::new(alloc, PlannedUnion { disc, index, cases }) {
+        Ok(planned) => Some(Plan::Union(planned)),
+        Err(_) => None,
+    }
+}
+
+/// The plan of a type. None says nothing: the name of a member or of a literal is hashed or would be escaped, two members have one
+/// name, or memory is wanting.
 #[cycle(planning)]
 #[tactic(auto, using(type_trees::proofs::Views::tree_rules))]
 pub fn plan_of(alloc: Global, ty: &XType) -> Option<Plan>
@@ -176,8 +243,9 @@ pub fn plan_of(alloc: Global, ty: &XType) -> Option<Plan>
             let plan = plan_list(alloc, &kind.elem)?;
             Some(plan)
         }
+        XType::Map(kind) => plan_map(alloc, kind),
         XType::Struct(kind) => plan_structure(alloc, kind),
+        XType::Union(kind) => plan_union(alloc, kind),
         XType::Alias(kind) => plan_of(alloc, &kind.ty),
-        XType::Map(_) | XType::Union(_) => None,
     }
 }

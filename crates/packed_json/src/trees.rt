@@ -1,13 +1,13 @@
 //! Values that stand as trees, appended as their plan says.
-ghost use Rattle.std.specs.Prelude.{◌≡◌, map, IfSome, MatchOption};
-ghost use Rattle.type_trees.specs.View.{val, body_val};
-ghost use Rattle.xt_shapes.specs.Vals.{listed, struct_of, vals_of, slots_of, absent, present};
-ghost use Rattle.packed_json.specs.Plans.{Writes, WritesItems, WritesPart, WritesParts, list_meaning, meaning, part, slot_at, struct_meaning};
+ghost use Rattle.std.specs.Prelude.{◌≡◌, map, slice_get, IfSome, MatchOption};
+ghost use Rattle.type_trees.specs.View.{val, body_val, pair_val, union_val};
+ghost use Rattle.xt_shapes.specs.Vals.{listed, mapped, struct_of, vals_of, pairs_of, slots_of, absent, present};
+ghost use Rattle.packed_json.specs.Plans.{Writes, WritesBody, WritesItems, WritesPair, WritesPairs, WritesPart, WritesParts, found_case, list_meaning, map_meaning, meaning, part, slot_at, struct_meaning, union_meaning};
 
-use crate::plan::{Plan, PlannedMember};
+use crate::plan::{Plan, PlannedMap, PlannedMember, PlannedUnion};
 use crate::texts::{put, put_comma};
 use crate::writing::{put_key, write_integer, write_text};
-use type_trees::{Slot, Value};
+use type_trees::{Pair, Slot, UnionValue, Value};
 use xt_lists::Text;
 
 #[cycle(trees)]
@@ -86,6 +86,83 @@ fn tree_list(plan: &Plan, values: &[Value], out: &mut Text) -> Option<()>
     Some(())
 }
 
+// A key and its value, in brackets.
+#[cycle(trees)]
+#[tactic(auto, using(type_trees::proofs::Views::val_rules))]
+fn tree_pair(plan: &PlannedMap, pair: &Pair, out: &mut Text) -> Option<()>
+    ensures { IfSome result (λ u. WritesPair (meaning plan.now.key) (meaning plan.now.value) (pair_val pair.now) out.old out.new) }
+{
+    put(b"[", out)?;
+    write_tree(&plan.key, &pair.key, out)?;
+    put(b",", out)?;
+    write_tree(&plan.value, &pair.value, out)?;
+    put(b"]", out)?;
+    Some(())
+}
+
+#[cycle(trees)]
+fn tree_pairs(plan: &PlannedMap, pairs: &[Pair], out: &mut Text) -> Option<()>
+    ensures { IfSome result (λ u. WritesPairs (meaning plan.now.key) (meaning plan.now.value) (map pair_val pairs.now) out.old out.new) }
+{
+    let mut is_later = false;
+    for pair in pairs {
+        put_comma(is_later, out)?;
+        tree_pair(plan, pair, out)?;
+        is_later = true;
+    }
+    put(b"]", out)?;
+    Some(())
+}
+
+#[cycle(trees)]
+fn tree_map(plan: &PlannedMap, pairs: &[Pair], out: &mut Text) -> Option<()>
+    ensures { IfSome result (λ u. Writes (map_meaning (meaning plan.now.key) (meaning plan.now.value)) (mapped (pairs_of (map pair_val pairs.now))) out.old out.new) }
+{
+    put(b"[", out)?;
+    tree_pairs(plan, pairs, out)?;
+    Some(())
+}
+
+// The value of the case at a position, and the closing brace.
+#[cycle(trees)]
+fn tree_case(cases: &[Plan], at: usize, value: &Value, out: &mut Text) -> Option<()>
+    ensures { IfSome result (λ u. WritesBody (slice_get (map meaning cases.now) at) (present (val value.now)) out.old out.new) }
+{
+    if at >= cases.len() {
+        return None;
+    }
+    put(b",\"v\":", out)?;
+    write_tree(&cases[at], value, out)?;
+    put(b"}", out)?;
+    Some(())
+}
+
+// The value of the case that the discriminator selects, if it is there, and the closing brace.
+#[cycle(trees)]
+#[tactic(auto, using(type_trees::proofs::Views::val_rules))]
+fn tree_body(plan: &PlannedUnion, value: &UnionValue, out: &mut Text) -> Option<()>
+    ensures { IfSome result (λ u. WritesBody (found_case plan.now.index (map meaning plan.now.cases) value.now.disc) (body_val value.now.body) out.old out.new) }
+{
+    match &value.body {
+        Slot::Absent => put(b"}", out),
+        Slot::Present(body) => {
+            let at = plan.index.find(value.disc)?;
+            tree_case(plan.cases.as_slice(), at, body, out)
+        }
+    }
+}
+
+#[cycle(trees)]
+#[tactic(auto, using(type_trees::proofs::Views::val_rules))]
+fn tree_union(plan: &PlannedUnion, value: &UnionValue, out: &mut Text) -> Option<()>
+    ensures { IfSome result (λ u. Writes (union_meaning (meaning plan.now.disc) plan.now.index (map meaning plan.now.cases)) (union_val value.now) out.old out.new) }
+{
+    put(b"{\"d\":", out)?;
+    write_integer(&plan.disc, value.disc, out)?;
+    tree_body(plan, value, out)?;
+    Some(())
+}
+
 /// Appends the JSON of a value that stands as a tree by its type's plan; members that are absent are left out. None says nothing, and what was
 /// appended is to be thrown away.
 #[cycle(trees)]
@@ -97,9 +174,11 @@ pub fn write_tree(plan: &Plan, value: &Value, out: &mut Text) -> Option<()>
         (plan, Value::Int(number)) => write_integer(plan, *number, out),
         (Plan::Text, Value::Str(text)) => write_text(text.octets(), out),
         (Plan::List(item), Value::List(values)) => tree_list(item, values.as_slice(), out),
+        (Plan::Map(plan), Value::Map(pairs)) => tree_map(plan, pairs.as_slice(), out),
         (Plan::Struct(members), Value::Struct(slots)) => {
             tree_structure(members.as_slice(), slots.as_slice(), out)
         }
+        (Plan::Union(plan), Value::Union(value)) => tree_union(plan, value, out),
         _ => None,
     }
 }

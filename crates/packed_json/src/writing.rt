@@ -55,7 +55,7 @@ pub(crate) fn write_integer(plan: &Plan, number: i128, out: &mut Text) -> Option
         Plan::Prim(prim) => write_number(*prim, number, out),
         Plan::Mask => write_mask(number, out),
         Plan::Enum(named) => write_literal(named, number, out),
-        Plan::Text | Plan::List(_) | Plan::Struct(_) => None,
+        Plan::Text | Plan::List(_) | Plan::Map(_) | Plan::Struct(_) | Plan::Union(_) => None,
     }
 }
 
@@ -78,7 +78,13 @@ fn write_packed_list(item: &Plan, numbers: &Numbers<'_>, out: &mut Text) -> Opti
 {
     match item {
         Plan::Prim(prim) => write_numbers(*prim, numbers, out),
-        Plan::Text | Plan::Mask | Plan::Enum(_) | Plan::List(_) | Plan::Struct(_) => None,
+        Plan::Text
+        | Plan::Mask
+        | Plan::Enum(_)
+        | Plan::List(_)
+        | Plan::Map(_)
+        | Plan::Struct(_)
+        | Plan::Union(_) => None,
     }
 }
 

@@ -1,5 +1,5 @@
 -- The members of a structure in declared order, one after another, where each is there, or optional and absent.
-use Rattle.std.proofs.Common.{◌≡◌, refl, sym, ap, subst, ◌∙◌, ℕ, ◌+◌, ◌<◌, ◌≤◌, Bool, true, false, ◌&&◌, ◌==◌, List, [], ◌∷◌, ◌++◌, length, drop, get_or, drop_of_length-le, Ok, Err, append_assoc, append-nil}
+use Rattle.std.proofs.Common.{◌≡◌, refl, sym, ap, subst, ◌∙◌, ℕ, ◌+◌, ◌<◌, ◌≤◌, Bool, true, false, ◌&&◌, ◌==◌, List, [], ◌∷◌, ◌++◌, length, drop, get_or, drop_of_length-le, Ok, Err, append_assoc, append-nil, zero-add}
 use Rattle.std.proofs.lemmas.Bool.{and_parts}
 use Rattle.std.proofs.lemmas.List.{at_drop_more}
 use Rattle.xt_shapes.specs.declared.leaves.Order.{Order}
@@ -10,6 +10,9 @@ use Rattle.xt_shapes.specs.Vals.{Val, Slot as Body, absent, present, struct_of, 
 use Rattle.type_trees.specs.declared.types.Member as declared
 use Rattle.type_trees.specs.Bridge.{type_shape, members_shape, member_head}
 use Rattle.type_trees.proofs.Views.{member_tree_is}
+use Rattle.settled_parts.specs.declared.guides.Guide.{Guide}
+use Rattle.settled_parts.specs.Guides.{IsGuide, AreGuides, part_at}
+use Rattle.settled_parts.proofs.GuideSteps.{guide_of_member}
 use Rattle.xcdr_model.specs.Premises.{distinct_members, sound, sound_members}
 use Rattle.xcdr_model.specs.Projection.{Part, whole_structure}
 use Rattle.xcdr_model.specs.Reading.{Spot, Reading, ◌>>=◌}
@@ -34,6 +37,13 @@ sound_here ms i m ok within is = (sound_parts ms i m ok within is).0
 
 pub sound_more : (ms : List declared.Member) (i : ℕ) (m : declared.Member) → sound_members (members_shape (drop i ms)) ≡ true → i < length ms → m ≡ get_or ms i m → sound_members (members_shape (drop (i + 1) ms)) ≡ true
 sound_more ms i m ok within is = (sound_parts ms i m ok within is).1
+
+pub guide_here : (ms : List declared.Member) (g part : Guide) (i : ℕ) (m : declared.Member) → AreGuides (members_shape ms) g 0 → i < length ms → m ≡ get_or ms i m → part ≡ part_at g i → IsGuide (type_shape m.ty) part
+guide_here ms g part i m are within is at_i =
+    let P : declared.Member → Type 0 = λ x. IsGuide (type_shape x.ty) (part_at g i) in
+    let Q : Guide → Type 0 = λ x. IsGuide (type_shape m.ty) x in
+    let R : ℕ → Type 0 = λ n. IsGuide (type_shape (get_or ms i m).ty) (part_at g n) in
+    subst Q (sym at_i) (subst P (sym is) (subst R (zero-add i) (guide_of_member ms g 0 i m within are)))
 
 -- ---- a member
 

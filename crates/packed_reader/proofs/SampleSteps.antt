@@ -1,5 +1,5 @@
 -- Whole samples.
-use Rattle.std.proofs.Common.{◌≡◌, refl, sym, ap, ◌∙◌, ℕ, ◌-◌, ◌≤◌, true, false, ◌&&◌, List, length, take, Some, Ok, zero-add}
+use Rattle.std.proofs.Common.{◌≡◌, refl, sym, ap, subst, ◌∙◌, ℕ, ◌-◌, ◌≤◌, true, false, ◌&&◌, List, length, take, Some, Ok, zero-add}
 use Rattle.std.proofs.lemmas.Bool.{le-ltb, and_parts}
 use Rattle.xt_shapes.specs.declared.leaves.Ext.{Ext}
 use Rattle.xt_shapes.specs.declared.leaves.Ext.TheVariants.{Final, Appendable, Mutable}
@@ -9,6 +9,8 @@ use Rattle.xt_shapes.specs.declared.leaves.Rep.TheVariants.{Xcdr1, Xcdr2}
 use Rattle.xt_shapes.specs.Kinds.{as_structure}
 use Rattle.xt_shapes.specs.Shape.{Shape, prim, str, enumeration, bitmask, sequence, array, map_of, structure, union, Members}
 use Rattle.xt_shapes.specs.Vals.{Val}
+use Rattle.settled_parts.specs.declared.guides.Guide.{Guide}
+use Rattle.settled_parts.specs.Guides.{IsGuide, AreGuides}
 use Rattle.xcdr_model.specs.Premises.{sound, sound_members, distinct_members, some_member}
 use Rattle.xcdr_model.specs.Reading.{Spot, ◌>>=◌}
 use Rattle.xcdr_model.specs.Samples.{top_ext, read_sample, sample}
@@ -64,6 +66,11 @@ pub parts_sound : (t : Shape) (e : Ext) (ms : Members) → t ≡ structure e ms 
 parts_sound t e ms is ok =
     let all = ap sound (sym is) ∙ ok in
     and_parts (distinct_members ms) (sound_members ms) (and_parts (some_member ms) (distinct_members ms && sound_members ms) all).1
+
+pub parts_guided : (t : Shape) (e : Ext) (ms : Members) (g : Guide) → t ≡ structure e ms → IsGuide t g → AreGuides ms g 0
+parts_guided t e ms g is guided =
+    let P : Shape → Type 0 = λ x. IsGuide x g in
+    subst P is guided
 
 -- ---- samples
 

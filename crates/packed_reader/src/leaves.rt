@@ -6,6 +6,7 @@ ghost use Rattle.xt_shapes.specs.Shape as model;
 ghost use Rattle.type_trees.specs.Bridge.{literal_shape, flag_shape};
 ghost use Rattle.xt_shapes.specs.Sizes as sizes;
 ghost use Rattle.xt_shapes.specs.Vals.{int};
+ghost use Rattle.settled_parts.specs.Guides.{TellsLiterals};
 ghost use Rattle.xcdr_model.specs.Numbers.{with_sign};
 ghost use Rattle.xcdr_model.specs.Xcdr2Reading.{present_at};
 ghost use Rattle.packed_reader.specs.View.{packed_val};
@@ -16,7 +17,7 @@ ghost use Rattle.packed_reader.specs.Reads.{Reads, IsValue};
 use crate::ahead::Ahead;
 use crate::numbers::{next_aligned, next_octets, next_word};
 use crate::values::Packed;
-use settled_parts::{Made, enum_part};
+use settled_parts::Guide;
 use type_trees::{EnumType, Literal, MaskType};
 use type_values::{fits_bits, is_past};
 use xt_shapes::{Order, Prim, Rep};
@@ -71,16 +72,22 @@ pub(crate) fn read_prim<'a>(
 
 // The value of an enumeration whose holder, of so many octets, has this number, where a literal has it.
 #[inline(always)]
-fn enum_packed<'a>(literals: &[Literal], size: u32, number: u64) -> Option<Packed<'a>>
+fn enum_packed<'a>(
+    literals: &[Literal],
+    guide: &Guide,
+    size: u32,
+    number: u64,
+) -> Option<Packed<'a>>
+    requires guide { TellsLiterals (map literal_shape literals.now) guide.now }
     requires size { IsUnit size }
     requires below { number < 256 ^ size }
     ensures { IfSome result (λ v. IsValue (map literal_shape literals.now) size number (packed_val v)) }
 {
     let value = enum_value(size, number);
-    match enum_part(literals, value).made {
-        Made::Got(_) => number_packed(value),
-        Made::Over(_) | Made::Failed => None,
+    if !guide.is_literal(literals, value) {
+        return None;
     }
+    number_packed(value)
 }
 
 #[inline(always)]
@@ -88,13 +95,15 @@ pub(crate) fn read_enum<'a>(
     rep: Rep,
     order: Order,
     kind: &EnumType,
+    guide: &Guide,
     ahead: Ahead<'a>,
 ) -> Option<(Packed<'a>, Ahead<'a>)>
+    requires { TellsLiterals (map literal_shape kind.now.literals) guide.now }
     ensures { IfSome result (λ x. Reads rep order (model.enumeration kind.now.ext kind.now.bits (map literal_shape kind.now.literals)) (spot_of ahead.entry) (packed_val x.0) (spot_of x.1)) }
 {
     let size = enum_size(kind.bits);
     let (number, behind) = next_aligned(rep, order, size, ahead)?;
-    let value = enum_packed(kind.literals.as_slice(), size, number)?;
+    let value = enum_packed(kind.literals.as_slice(), guide, size, number)?;
     Some((value, behind))
 }
 

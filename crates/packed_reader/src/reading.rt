@@ -7,6 +7,7 @@ ghost use Rattle.xt_shapes.specs.declared.leaves.Ext.TheVariants.{Appendable, Mu
 ghost use Rattle.xt_shapes.specs.Shape as model;
 ghost use Rattle.xt_shapes.specs.Shape.{product};
 ghost use Rattle.xcdr_model.specs.Xcdr2Reading.{is_primitive};
+ghost use Rattle.settled_parts.specs.Guides.{IsGuide, AreGuides, part_at};
 ghost use Rattle.packed_reader.specs.View.{packed_val, packed_slot};
 ghost use Rattle.packed_reader.specs.Spots.{spot_of};
 ghost use Rattle.packed_reader.specs.Pieces.{ReadsPiece, ReadsPieces};
@@ -18,6 +19,7 @@ use crate::lists::read_numbers;
 use crate::numbers::{next_region, next_word};
 use crate::pieces::next_content;
 use crate::values::{Packed, PackedSlot};
+use settled_parts::Guide;
 use std::alloc::Global;
 use type_trees::sizes::elements_of;
 use type_trees::{Elem, Member, StructType, XType, as_prim};
@@ -32,10 +34,12 @@ fn read_items<'a>(
     rep: Rep,
     order: Order,
     ty: &XType,
+    guide: &Guide,
     count: u64,
     ahead: Ahead<'a>,
 ) -> Option<(Row<Packed<'a>>, Ahead<'a>)>
-    requires { sound (type_shape ty.now) ≡ true }
+    requires sound { sound (type_shape ty.now) ≡ true }
+    requires guide { IsGuide (type_shape ty.now) guide.now }
     ensures many { IfSome result (λ x. length x.0 ≡ count) }
     ensures value { IfSome result (λ x. ReadsEach rep order (type_shape ty.now) count (spot_of ahead.entry) (map packed_val x.0) (spot_of x.1)) }
 {
@@ -46,7 +50,7 @@ fn read_items<'a>(
     };
     let mut left = ahead;
     for _turn in 0..count {
-        let (value, behind) = read_packed(alloc, rep, order, ty, left)?;
+        let (value, behind) = read_packed(alloc, rep, order, ty, guide, left)?;
         let Ok(()) = values.push(value) else {
             return None;
         };
@@ -63,17 +67,19 @@ fn read_counted<'a>(
     rep: Rep,
     order: Order,
     ty: &XType,
+    guide: &Guide,
     bound: u32,
     ahead: Ahead<'a>,
 ) -> Option<(Row<Packed<'a>>, Ahead<'a>)>
-    requires { sound (type_shape ty.now) ≡ true }
+    requires sound { sound (type_shape ty.now) ≡ true }
+    requires guide { IsGuide (type_shape ty.now) guide.now }
     ensures { IfSome result (λ x. ReadsCounted rep order bound (type_shape ty.now) (spot_of ahead.entry) (map packed_val x.0) (spot_of x.1)) }
 {
     let (count, begin) = next_word(order, ahead)?;
     if is_past(bound, count as usize) {
         return None;
     }
-    let (values, behind) = read_items(alloc, rep, order, ty, count, begin)?;
+    let (values, behind) = read_items(alloc, rep, order, ty, guide, count, begin)?;
     Some((values, behind))
 }
 
@@ -85,21 +91,24 @@ fn read_list<'a>(
     rep: Rep,
     order: Order,
     elem: &Elem,
+    guide: &Guide,
     bound: u32,
     ahead: Ahead<'a>,
 ) -> Option<(Packed<'a>, Ahead<'a>)>
     requires sound { sound (type_shape elem.now.ty) ≡ true }
     requires inside { is_primitive (type_shape elem.now.ty) ≡ false }
+    requires guide { IsGuide (type_shape elem.now.ty) guide.now }
     ensures { IfSome result (λ x. Reads rep order (model.sequence bound elem.now.tc (type_shape elem.now.ty)) (spot_of ahead.entry) (packed_val x.0) (spot_of x.1)) }
 {
+    let ty = &elem.ty;
     match rep {
         Rep::Xcdr1 => {
-            let (values, behind) = read_counted(alloc, Rep::Xcdr1, order, &elem.ty, bound, ahead)?;
+            let (values, behind) = read_counted(alloc, Rep::Xcdr1, order, ty, guide, bound, ahead)?;
             Some((Packed::List(values), behind))
         }
         Rep::Xcdr2 => {
             let (inside, after) = next_region(order, ahead)?;
-            let (values, end) = read_counted(alloc, Rep::Xcdr2, order, &elem.ty, bound, inside)?;
+            let (values, end) = read_counted(alloc, Rep::Xcdr2, order, ty, guide, bound, inside)?;
             if !end.rest.is_empty() {
                 return None;
             }
@@ -108,6 +117,7 @@ fn read_list<'a>(
     }
 }
 
+// The guide is the sequence's own: numbers need none.
 #[cycle(reading)]
 #[inline(always)]
 fn read_sequence<'a>(
@@ -115,14 +125,16 @@ fn read_sequence<'a>(
     rep: Rep,
     order: Order,
     elem: &Elem,
+    guide: &Guide,
     bound: u32,
     ahead: Ahead<'a>,
 ) -> Option<(Packed<'a>, Ahead<'a>)>
-    requires { sound (type_shape elem.now.ty) ≡ true }
+    requires sound { sound (type_shape elem.now.ty) ≡ true }
+    requires guide { IsGuide (type_shape elem.now.ty) (part_at guide.now 0) }
     ensures { IfSome result (λ x. Reads rep order (model.sequence bound elem.now.tc (type_shape elem.now.ty)) (spot_of ahead.entry) (packed_val x.0) (spot_of x.1)) }
 {
     let Some(prim) = as_prim(&elem.ty) else {
-        let (value, behind) = read_list(alloc, rep, order, elem, bound, ahead)?;
+        let (value, behind) = read_list(alloc, rep, order, elem, guide.part(0), bound, ahead)?;
         return Some((value, behind));
     };
     let (count, begin) = next_word(order, ahead)?;
@@ -141,21 +153,24 @@ fn read_table<'a>(
     rep: Rep,
     order: Order,
     elem: &Elem,
+    guide: &Guide,
     count: u64,
     ahead: Ahead<'a>,
 ) -> Option<(Packed<'a>, Ahead<'a>)>
     requires sound { sound (type_shape elem.now.ty) ≡ true }
     requires inside { is_primitive (type_shape elem.now.ty) ≡ false }
+    requires guide { IsGuide (type_shape elem.now.ty) guide.now }
     ensures { IfSome result (λ x. (dims : List ℕ) → product dims ≡ count → Reads rep order (model.array dims elem.now.tc (type_shape elem.now.ty)) (spot_of ahead.entry) (packed_val x.0) (spot_of x.1)) }
 {
+    let ty = &elem.ty;
     match rep {
         Rep::Xcdr1 => {
-            let (values, behind) = read_items(alloc, Rep::Xcdr1, order, &elem.ty, count, ahead)?;
+            let (values, behind) = read_items(alloc, Rep::Xcdr1, order, ty, guide, count, ahead)?;
             Some((Packed::List(values), behind))
         }
         Rep::Xcdr2 => {
             let (inside, after) = next_region(order, ahead)?;
-            let (values, end) = read_items(alloc, Rep::Xcdr2, order, &elem.ty, count, inside)?;
+            let (values, end) = read_items(alloc, Rep::Xcdr2, order, ty, guide, count, inside)?;
             if !end.rest.is_empty() {
                 return None;
             }
@@ -164,6 +179,7 @@ fn read_table<'a>(
     }
 }
 
+// The guide is the array's own: numbers need none.
 #[cycle(reading)]
 #[inline(always)]
 fn read_array<'a>(
@@ -171,10 +187,12 @@ fn read_array<'a>(
     rep: Rep,
     order: Order,
     elem: &Elem,
+    guide: &Guide,
     dims: &[u32],
     ahead: Ahead<'a>,
 ) -> Option<(Packed<'a>, Ahead<'a>)>
-    requires { sound (type_shape elem.now.ty) ≡ true }
+    requires sound { sound (type_shape elem.now.ty) ≡ true }
+    requires guide { IsGuide (type_shape elem.now.ty) (part_at guide.now 0) }
     ensures { IfSome result (λ x. Reads rep order (model.array dims.now elem.now.tc (type_shape elem.now.ty)) (spot_of ahead.entry) (packed_val x.0) (spot_of x.1)) }
 {
     let count = elements_of(dims);
@@ -182,7 +200,7 @@ fn read_array<'a>(
         return None;
     }
     let Some(prim) = as_prim(&elem.ty) else {
-        let (value, behind) = read_table(alloc, rep, order, elem, count, ahead)?;
+        let (value, behind) = read_table(alloc, rep, order, elem, guide.part(0), count, ahead)?;
         return Some((value, behind));
     };
     let (numbers, behind) = read_numbers(rep, order, prim, count, ahead)?;
@@ -197,13 +215,15 @@ fn read_slot<'a>(
     rep: Rep,
     order: Order,
     member: &Member,
+    guide: &Guide,
     ahead: Ahead<'a>,
 ) -> Option<(PackedSlot<'a>, Ahead<'a>)>
-    requires { sound (type_shape member.now.ty) ≡ true }
+    requires sound { sound (type_shape member.now.ty) ≡ true }
+    requires guide { IsGuide (type_shape member.now.ty) guide.now }
     ensures { IfSome result (λ x. ReadsSlot rep order (member_head member.now) (type_shape member.now.ty) (spot_of ahead.entry) (packed_slot x.0) (spot_of x.1)) }
 {
     if !member.optional {
-        let (value, behind) = read_packed(alloc, rep, order, &member.ty, ahead)?;
+        let (value, behind) = read_packed(alloc, rep, order, &member.ty, guide, ahead)?;
         return Some((PackedSlot::Present(value), behind));
     }
     // (in XCDR1 it is a parameter)
@@ -214,7 +234,7 @@ fn read_slot<'a>(
     if !is_there {
         return Some((PackedSlot::Absent, inside));
     }
-    let (value, behind) = read_packed(alloc, Rep::Xcdr2, order, &member.ty, inside)?;
+    let (value, behind) = read_packed(alloc, Rep::Xcdr2, order, &member.ty, guide, inside)?;
     Some((PackedSlot::Present(value), behind))
 }
 
@@ -235,10 +255,12 @@ pub(crate) fn read_members<'a>(
     order: Order,
     cut: bool,
     members: &[Member],
+    guide: &Guide,
     ahead: Ahead<'a>,
 ) -> Option<(Packed<'a>, Ahead<'a>)>
     requires apart { distinct_members (members_shape members.now) ≡ true }
     requires sound { sound_members (members_shape members.now) ≡ true }
+    requires guide { AreGuides (members_shape members.now) guide.now 0 }
     ensures { IfSome result (λ x. ReadsMembers rep order cut (members_shape members.now) (spot_of ahead.entry) (packed_val x.0) (spot_of x.1)) }
 {
     let mut slots = Row::new(alloc);
@@ -246,11 +268,11 @@ pub(crate) fn read_members<'a>(
         return None;
     };
     let mut left = ahead;
-    for member in members {
+    for (at, member) in members.iter().enumerate() {
         if is_ended(cut, left) {
             return None;
         }
-        let (slot, behind) = read_slot(alloc, rep, order, member, left)?;
+        let (slot, behind) = read_slot(alloc, rep, order, member, guide.part(at), left)?;
         let Ok(()) = slots.push(slot) else {
             return None;
         };
@@ -266,9 +288,11 @@ fn read_piece<'a>(
     alloc: Global,
     order: Order,
     member: &Member,
+    guide: &Guide,
     ahead: Ahead<'a>,
 ) -> Option<(PackedSlot<'a>, Ahead<'a>)>
-    requires { sound (type_shape member.now.ty) ≡ true }
+    requires sound { sound (type_shape member.now.ty) ≡ true }
+    requires guide { IsGuide (type_shape member.now.ty) guide.now }
     ensures { IfSome result (λ x. ReadsPiece order (member_head member.now) (type_shape member.now.ty) (spot_of ahead.entry) (packed_slot x.0) (spot_of x.1)) }
 {
     let Some((content, behind)) = next_content(order, member.id, ahead) else {
@@ -277,7 +301,7 @@ fn read_piece<'a>(
         }
         return None;
     };
-    let (value, end) = read_packed(alloc, Rep::Xcdr2, order, &member.ty, content)?;
+    let (value, end) = read_packed(alloc, Rep::Xcdr2, order, &member.ty, guide, content)?;
     if !end.rest.is_empty() {
         return None;
     }
@@ -291,10 +315,12 @@ fn read_pieces<'a>(
     alloc: Global,
     order: Order,
     members: &[Member],
+    guide: &Guide,
     ahead: Ahead<'a>,
 ) -> Option<Packed<'a>>
     requires apart { distinct_members (members_shape members.now) ≡ true }
     requires sound { sound_members (members_shape members.now) ≡ true }
+    requires guide { AreGuides (members_shape members.now) guide.now 0 }
     ensures { IfSome result (λ v. ReadsPieces order (members_shape members.now) (spot_of ahead.entry) (packed_val v)) }
 {
     let mut slots = Row::new(alloc);
@@ -302,8 +328,8 @@ fn read_pieces<'a>(
         return None;
     };
     let mut left = ahead;
-    for member in members {
-        let (slot, behind) = read_piece(alloc, order, member, left)?;
+    for (at, member) in members.iter().enumerate() {
+        let (slot, behind) = read_piece(alloc, order, member, guide.part(at), left)?;
         let Ok(()) = slots.push(slot) else {
             return None;
         };
@@ -323,20 +349,30 @@ fn read_appendable<'a>(
     rep: Rep,
     order: Order,
     members: &[Member],
+    guide: &Guide,
     ahead: Ahead<'a>,
 ) -> Option<(Packed<'a>, Ahead<'a>)>
     requires apart { distinct_members (members_shape members.now) ≡ true }
     requires sound { sound_members (members_shape members.now) ≡ true }
+    requires guide { AreGuides (members_shape members.now) guide.now 0 }
     ensures { IfSome result (λ x. Reads rep order (model.structure Appendable (members_shape members.now)) (spot_of ahead.entry) (packed_val x.0) (spot_of x.1)) }
 {
     match rep {
         Rep::Xcdr1 => {
-            let (value, behind) = read_members(alloc, Rep::Xcdr1, order, false, members, ahead)?;
+            let (value, behind) = read_members(
+                alloc,
+                Rep::Xcdr1,
+                order,
+                false,
+                members,
+                guide,
+                ahead,
+            )?;
             Some((value, behind))
         }
         Rep::Xcdr2 => {
             let (inside, after) = next_region(order, ahead)?;
-            let (value, _) = read_members(alloc, Rep::Xcdr2, order, true, members, inside)?;
+            let (value, _) = read_members(alloc, Rep::Xcdr2, order, true, members, guide, inside)?;
             Some((value, after))
         }
     }
@@ -350,17 +386,19 @@ fn read_mutable<'a>(
     rep: Rep,
     order: Order,
     members: &[Member],
+    guide: &Guide,
     ahead: Ahead<'a>,
 ) -> Option<(Packed<'a>, Ahead<'a>)>
     requires apart { distinct_members (members_shape members.now) ≡ true }
     requires sound { sound_members (members_shape members.now) ≡ true }
+    requires guide { AreGuides (members_shape members.now) guide.now 0 }
     ensures { IfSome result (λ x. Reads rep order (model.structure Mutable (members_shape members.now)) (spot_of ahead.entry) (packed_val x.0) (spot_of x.1)) }
 {
     match rep {
         Rep::Xcdr1 => None,
         Rep::Xcdr2 => {
             let (inside, after) = next_region(order, ahead)?;
-            let value = read_pieces(alloc, order, members, inside)?;
+            let value = read_pieces(alloc, order, members, guide, inside)?;
             Some((value, after))
         }
     }
@@ -374,23 +412,25 @@ fn read_structure<'a>(
     rep: Rep,
     order: Order,
     kind: &StructType,
+    guide: &Guide,
     ahead: Ahead<'a>,
 ) -> Option<(Packed<'a>, Ahead<'a>)>
-    requires { sound (shape (struct_tree kind.now)) ≡ true }
+    requires sound { sound (shape (struct_tree kind.now)) ≡ true }
+    requires guide { IsGuide (shape (struct_tree kind.now)) guide.now }
     ensures { IfSome result (λ x. Reads rep order (shape (struct_tree kind.now)) (spot_of ahead.entry) (packed_val x.0) (spot_of x.1)) }
 {
     let members = kind.members.as_slice();
     match kind.ext {
         Ext::Final => {
-            let (value, behind) = read_members(alloc, rep, order, false, members, ahead)?;
+            let (value, behind) = read_members(alloc, rep, order, false, members, guide, ahead)?;
             Some((value, behind))
         }
         Ext::Appendable => {
-            let (value, behind) = read_appendable(alloc, rep, order, members, ahead)?;
+            let (value, behind) = read_appendable(alloc, rep, order, members, guide, ahead)?;
             Some((value, behind))
         }
         Ext::Mutable => {
-            let (value, behind) = read_mutable(alloc, rep, order, members, ahead)?;
+            let (value, behind) = read_mutable(alloc, rep, order, members, guide, ahead)?;
             Some((value, behind))
         }
     }
@@ -405,27 +445,30 @@ pub(crate) fn read_packed<'a>(
     rep: Rep,
     order: Order,
     ty: &XType,
+    guide: &Guide,
     ahead: Ahead<'a>,
 ) -> Option<(Packed<'a>, Ahead<'a>)>
-    requires { sound (type_shape ty.now) ≡ true }
+    requires sound { sound (type_shape ty.now) ≡ true }
+    requires guide { IsGuide (type_shape ty.now) guide.now }
     ensures { IfSome result (λ x. Reads rep order (type_shape ty.now) (spot_of ahead.entry) (packed_val x.0) (spot_of x.1)) }
 {
     match ty {
         XType::Prim(prim) => read_prim(rep, order, *prim, ahead),
         XType::Str(bound) => read_text(order, *bound, ahead),
-        XType::Enum(kind) => read_enum(rep, order, kind, ahead),
+        XType::Enum(kind) => read_enum(rep, order, kind, guide, ahead),
         XType::Mask(kind) => read_mask(rep, order, kind, ahead),
-        XType::Seq(kind) => read_sequence(alloc, rep, order, &kind.elem, kind.bound, ahead),
+        XType::Seq(kind) => read_sequence(alloc, rep, order, &kind.elem, guide, kind.bound, ahead),
         XType::Array(kind) => read_array(
             alloc,
             rep,
             order,
             &kind.elem,
+            guide,
             kind.dims.as_slice(),
             ahead,
         ),
-        XType::Struct(kind) => read_structure(alloc, rep, order, kind, ahead),
-        XType::Alias(kind) => read_packed(alloc, rep, order, &kind.ty, ahead),
+        XType::Struct(kind) => read_structure(alloc, rep, order, kind, guide, ahead),
+        XType::Alias(kind) => read_packed(alloc, rep, order, &kind.ty, guide, ahead),
         XType::Map(_) | XType::Union(_) => None,
     }
 }

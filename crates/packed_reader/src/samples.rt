@@ -5,6 +5,7 @@ ghost use Rattle.type_trees.specs.Bridge.{type_shape};
 ghost use Rattle.xcdr_model.specs.Premises.{sound};
 ghost use Rattle.xcdr_model.specs.Samples as model;
 ghost use Rattle.xcdr_model.specs.Xcdr1Reading as spec;
+ghost use Rattle.settled_parts.specs.Guides.{IsGuide};
 ghost use Rattle.projection_laws.specs.Premises.{IsValid};
 ghost use Rattle.packed_reader.specs.View.{packed_val};
 ghost use Rattle.packed_reader.specs.Bodies.{IsHead, IsBody, IsOwn, IsTail};
@@ -13,6 +14,7 @@ ghost use Rattle.packed_reader.specs.Spots.{spot_of};
 use crate::ahead::Ahead;
 use crate::reading::{read_members, read_packed};
 use crate::values::Packed;
+use settled_parts::Guide;
 use std::alloc::Global;
 use type_rules::shape_keeps_rules;
 use type_trees::{XType, as_struct};
@@ -81,12 +83,14 @@ fn read_own<'a>(
     rep: Rep,
     order: Order,
     ty: &XType,
+    guide: &Guide,
     ahead: Ahead<'a>,
 ) -> Option<Packed<'a>>
-    requires { sound (type_shape ty.now) ≡ true }
+    requires sound { sound (type_shape ty.now) ≡ true }
+    requires guide { IsGuide (type_shape ty.now) guide.now }
     ensures { IfSome result (λ v. IsOwn rep order (type_shape ty.now) (spot_of ahead.entry) (packed_val v)) }
 {
-    let (value, left) = read_packed(alloc, rep, order, ty, ahead)?;
+    let (value, left) = read_packed(alloc, rep, order, ty, guide, ahead)?;
     if !left.rest.is_empty() {
         return None;
     }
@@ -94,8 +98,15 @@ fn read_own<'a>(
 }
 
 // The whole body of an APPENDABLE structure in XCDR1. What is left behind its members is passed over.
-fn read_tail<'a>(alloc: Global, order: Order, ty: &XType, ahead: Ahead<'a>) -> Option<Packed<'a>>
-    requires { sound (type_shape ty.now) ≡ true }
+fn read_tail<'a>(
+    alloc: Global,
+    order: Order,
+    ty: &XType,
+    guide: &Guide,
+    ahead: Ahead<'a>,
+) -> Option<Packed<'a>>
+    requires sound { sound (type_shape ty.now) ≡ true }
+    requires guide { IsGuide (type_shape ty.now) guide.now }
     ensures { IfSome result (λ v. IsTail order (type_shape ty.now) (spot_of ahead.entry) (packed_val v)) }
 {
     let kind = as_struct(ty)?;
@@ -108,6 +119,7 @@ fn read_tail<'a>(alloc: Global, order: Order, ty: &XType, ahead: Ahead<'a>) -> O
         order,
         true,
         kind.members.as_slice(),
+        guide,
         ahead,
     )?;
     Some(value)
@@ -119,9 +131,11 @@ fn read_body<'a>(
     rep: Rep,
     order: Order,
     ty: &XType,
+    guide: &Guide,
     body: &'a [u8],
 ) -> Option<Packed<'a>>
-    requires { IsValid ty.now }
+    requires valid { IsValid ty.now }
+    requires guide { IsGuide (type_shape ty.now) guide.now }
     ensures { IfSome result (λ v. IsBody rep order (type_shape ty.now) body.now (packed_val v)) }
 {
     shape_keeps_rules();
@@ -135,15 +149,15 @@ fn read_body<'a>(
     };
     match rep {
         Rep::Xcdr2 => {
-            let value = read_own(alloc, Rep::Xcdr2, order, ty, ahead)?;
+            let value = read_own(alloc, Rep::Xcdr2, order, ty, guide, ahead)?;
             Some(value)
         }
         Rep::Xcdr1 => {
             if is_open(ty) {
-                let value = read_tail(alloc, order, ty, ahead)?;
+                let value = read_tail(alloc, order, ty, guide, ahead)?;
                 return Some(value);
             }
-            let value = read_own(alloc, Rep::Xcdr1, order, ty, ahead)?;
+            let value = read_own(alloc, Rep::Xcdr1, order, ty, guide, ahead)?;
             Some(value)
         }
     }
@@ -152,9 +166,16 @@ fn read_body<'a>(
 /// Reads a whole sample in that representation, in either byte order, where it is plain (DDS-XTypes 1.3, 7.6.3.1.2): the members stand in
 /// declared order, and nothing has to be settled or filled in. What stands behind the members of an APPENDABLE structure is passed over. In
 /// XCDR1 no member is a parameter. Some is what the definition reads. None says nothing: the general reader tells. Memory that is wanting is
-/// None, too.
-pub fn read_plain<'a>(alloc: Global, rep: Rep, ty: &XType, sample: &'a [u8]) -> Option<Packed<'a>>
-    requires { IsValid ty.now }
+/// None, too. Literals are found in logarithmic time where the guide knows them; `Guide::of(alloc, ty)` makes such a guide.
+pub fn read_plain<'a>(
+    alloc: Global,
+    rep: Rep,
+    ty: &XType,
+    guide: &Guide,
+    sample: &'a [u8],
+) -> Option<Packed<'a>>
+    requires valid { IsValid ty.now }
+    requires guide { IsGuide (type_shape ty.now) guide.now }
     ensures { IfSome result (λ v. model.read_sample rep (type_shape ty.now) sample.now ≡ Ok (model.sample (packed_val v))) }
 {
     let (order, pad, behind) = open_sample(rep, top_of(ty), sample)?;
@@ -162,6 +183,6 @@ pub fn read_plain<'a>(alloc: Global, rep: Rep, ty: &XType, sample: &'a [u8]) -> 
         return None;
     }
     let (body, _) = behind.split_at(behind.len() - pad);
-    let value = read_body(alloc, rep, order, ty, body)?;
+    let value = read_body(alloc, rep, order, ty, guide, body)?;
     Some(value)
 }

@@ -5,3 +5,5 @@ pub mod LiteralSteps
 pub mod EntrySteps
 pub mod MemberSteps
 pub mod StructureSteps
+pub mod CasesByIndex
+pub mod GuideSteps

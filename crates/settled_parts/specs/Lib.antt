@@ -5,3 +5,4 @@ pub mod Items
 pub mod Entries
 pub mod Members
 pub mod Unions
+pub mod Guides

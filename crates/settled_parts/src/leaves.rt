@@ -13,14 +13,22 @@ use type_trees::{Literal, Value};
 use type_values::is_past;
 use xt_lists::{OutOfMemory, Text};
 
+/// An enumeration's value, where a literal is known to have it or none to.
+#[inline(always)]
+pub(crate) fn literal_part(is_known: bool, number: i128) -> Part
+    ensures { part_of result ≡ (cond is_known (model.got (int number)) model.failed, false) }
+{
+    if is_known {
+        return Part::number(number);
+    }
+    Part::failed()
+}
+
 /// An enumeration's value: none where no literal has it.
 pub fn enum_part(literals: &[Literal], number: i128) -> Part
     ensures { part_of result ≡ (cond (is_literal (map literal_shape literals.now) number) (model.got (int number)) model.failed, false) }
 {
-    if is_value(literals, number) {
-        return Part::number(number);
-    }
-    Part::failed()
+    literal_part(is_value(literals, number), number)
 }
 
 /// As `text_part`, of octets that become the text. It takes no memory.

@@ -3,6 +3,8 @@
 #![tactic(auto)]
 
 mod entries;
+mod guides;
+mod guiding;
 mod items;
 mod leaves;
 mod literals;
@@ -12,6 +14,7 @@ mod settling;
 mod unions;
 
 pub use entries::Entries;
+pub use guides::{CaseIndex, Guide, Known};
 pub use items::Items;
 pub use leaves::{enum_part, text_from, text_part};
 pub use members::{MemberSlots, Slots, slot_from};

@@ -38,7 +38,7 @@ impl<'a> Quiet for Reading<'a> {
         ensures { Comes (read_lines (pair_view self.now.pair) records.now) (λ run number body. ⟦<Samples<Lines> as Turns>⟧.to_write run number body) result }
     {
         let ty = reader_type(alloc, &self.pair, records)?;
-        Ok(Samples::planned(alloc, self.pair.rep, ty, Lines))
+        Ok(Samples::prepared(alloc, self.pair.rep, ty, Lines))
     }
 
     ghost at_end = { λ run number. run_at_end _ _ _ _ number };
@@ -71,7 +71,7 @@ impl<'a> Quiet for Converting<'a> {
     {
         let ty = reader_type(alloc, &self.pair, records)?;
         let form = Conversions { to: self.to };
-        Ok(Samples::planned(alloc, self.pair.rep, ty, form))
+        Ok(Samples::prepared(alloc, self.pair.rep, ty, form))
     }
 
     ghost at_end = { λ run number. run_at_end _ _ _ _ number };

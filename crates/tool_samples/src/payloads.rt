@@ -4,40 +4,35 @@ ghost use Rattle.type_trees.specs.View.{tree};
 ghost use Rattle.type_trees.specs.Bridge.{type_shape};
 ghost use Rattle.projection_laws.specs.Premises.{IsValid};
 ghost use Rattle.xcdr_model.specs.Samples.{read_sample};
-ghost use Rattle.tool_samples.specs.Sampling.{PlansFor, Taken};
+ghost use Rattle.settled_parts.specs.Guides.{IsGuide};
+ghost use Rattle.tool_samples.specs.Sampling.{IsPrepared, Taken};
 ghost use Rattle.tool_samples.specs.lines.Lines.{sample_line};
 
 use crate::forms::{Lines, Shows};
-use packed_json::{Plan, plan_of};
-use packed_reader::{may_be_plain, read_plain};
-use settled_parts::Outcome;
+use crate::prepared::Prepared;
+use packed_reader::read_plain;
+use settled_parts::{Guide, Outcome};
 use std::alloc::Global;
 use type_trees::XType;
+use xcdr_samples::read_guided;
 use xt_lists::{OutOfMemory, Text};
-use xt_shapes::{Ext, Rep};
+use xt_shapes::Rep;
 use xt_wire::cursor::{DecodeFault, SliceCursor};
-use xt_wire::numbers::top_of;
 
 /// What the reader's type makes of a sample.
-pub fn taken(alloc: Global, rep: Rep, ty: &XType, sample: &[u8]) -> Result<Outcome, DecodeFault>
-    requires { IsValid ty.now }
+pub fn taken(
+    alloc: Global,
+    rep: Rep,
+    ty: &XType,
+    guide: &Guide,
+    sample: &[u8],
+) -> Result<Outcome, DecodeFault>
+    requires valid { IsValid ty.now }
+    requires guide { IsGuide (type_shape ty.now) guide.now }
     ensures { Taken (read_sample rep (type_shape ty.now) sample.now) result }
 {
     let mut cursor = SliceCursor::new(sample);
-    xcdr_samples::read_sample(alloc, rep, ty, &mut cursor)
-}
-
-/// The plan of a type whose samples in that representation may be plain. None says nothing.
-pub fn plan_for(alloc: Global, rep: Rep, ty: &XType) -> Option<Plan>
-    ensures { PlansFor (tree ty.now) result }
-{
-    if rep == Rep::Xcdr1 && top_of(ty) == Ext::Mutable {
-        return None;
-    }
-    if !may_be_plain(ty) {
-        return None;
-    }
-    plan_of(alloc, ty)
+    read_guided(alloc, rep, ty, guide, &mut cursor)
 }
 
 // What is written of a plain sample. None says nothing.
@@ -46,17 +41,20 @@ fn plain_piece<F: Shows>(
     form: &F,
     rep: Rep,
     ty: &XType,
-    plan: &Option<Plan>,
+    prepared: &Prepared,
     payload: &[u8],
 ) -> Option<Text>
     requires valid { IsValid ty.now }
-    requires planned { PlansFor (tree ty.now) plan.now }
+    requires prepared { IsPrepared (tree ty.now) prepared.now }
     ensures { IfSome result (λ text. text ≡ F.piece form.now (tree ty.now) (read_sample rep (type_shape ty.now) payload.now)) }
 {
-    let Some(plan) = plan else {
+    let Some(plan) = &prepared.plan else {
         return None;
     };
-    let value = read_plain(alloc, rep, ty, payload)?;
+    if !prepared.may_be_plain {
+        return None;
+    }
+    let value = read_plain(alloc, rep, ty, &prepared.guide, payload)?;
     let text = form.plain(alloc, ty, plan, &value, payload.len())?;
     Some(text)
 }
@@ -67,15 +65,15 @@ fn general_piece<F: Shows>(
     form: &F,
     rep: Rep,
     ty: &XType,
-    plan: &Option<Plan>,
+    prepared: &Prepared,
     payload: &[u8],
 ) -> Result<Text, OutOfMemory>
     requires valid { IsValid ty.now }
-    requires planned { PlansFor (tree ty.now) plan.now }
+    requires prepared { IsPrepared (tree ty.now) prepared.now }
     ensures { IfOk result (λ text. text ≡ F.piece form.now (tree ty.now) (read_sample rep (type_shape ty.now) payload.now)) }
 {
-    match taken(alloc, rep, ty, payload) {
-        Ok(outcome) => form.outcome(alloc, ty, plan, &outcome),
+    match taken(alloc, rep, ty, &prepared.guide, payload) {
+        Ok(outcome) => form.outcome(alloc, ty, &prepared.plan, &outcome),
         Err(DecodeFault::Malformed { at, why }) => form.malformed(alloc, ty, at, why),
         Err(DecodeFault::ReadFault | DecodeFault::OutOfMemory) => Err(OutOfMemory),
     }
@@ -87,16 +85,16 @@ pub(crate) fn payload_piece<F: Shows>(
     form: &F,
     rep: Rep,
     ty: &XType,
-    plan: &Option<Plan>,
+    prepared: &Prepared,
     payload: &[u8],
 ) -> Result<Text, OutOfMemory>
     requires valid { IsValid ty.now }
-    requires planned { PlansFor (tree ty.now) plan.now }
+    requires prepared { IsPrepared (tree ty.now) prepared.now }
     ensures { IfOk result (λ text. text ≡ F.piece form.now (tree ty.now) (read_sample rep (type_shape ty.now) payload.now)) }
 {
-    match plain_piece(alloc, form, rep, ty, plan, payload) {
+    match plain_piece(alloc, form, rep, ty, prepared, payload) {
         Some(text) => Ok(text),
-        None => general_piece(alloc, form, rep, ty, plan, payload),
+        None => general_piece(alloc, form, rep, ty, prepared, payload),
     }
 }
 
@@ -105,12 +103,12 @@ pub fn payload_line(
     alloc: Global,
     rep: Rep,
     ty: &XType,
-    plan: &Option<Plan>,
+    prepared: &Prepared,
     payload: &[u8],
 ) -> Result<Text, OutOfMemory>
     requires valid { IsValid ty.now }
-    requires planned { PlansFor (tree ty.now) plan.now }
+    requires prepared { IsPrepared (tree ty.now) prepared.now }
     ensures { IfOk result (λ text. text ≡ sample_line rep (tree ty.now) payload.now) }
 {
-    payload_piece(alloc, &Lines, rep, ty, plan, payload)
+    payload_piece(alloc, &Lines, rep, ty, prepared, payload)
 }

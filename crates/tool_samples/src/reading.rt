@@ -1,12 +1,13 @@
 ghost use Rattle.std.specs.Prelude.{◌≡◌};
 ghost use Rattle.type_trees.specs.View.{tree};
 ghost use Rattle.projection_laws.specs.Premises.{IsValid};
-ghost use Rattle.tool_samples.specs.Sampling.{PlansFor};
+ghost use Rattle.std.proofs.Props.{props};
+ghost use Rattle.tool_samples.specs.Props.{guide_prop};
+ghost use Rattle.tool_samples.specs.Sampling.{IsPrepared};
 
 use crate::forms::Shows;
-use crate::payloads::plan_for;
+use crate::prepared::Prepared;
 use crate::sampling::sample_piece;
-use packed_json::Plan;
 use std::alloc::Global;
 use tool_runs::output::{Block, Stop, Turns, is_sample};
 use type_trees::XType;
@@ -20,39 +21,25 @@ pub struct Samples<F> {
     rep: Rep,
     ty: XType,
     form: F,
-    plan: Option<Plan>,
+    prepared: Prepared,
     ghost valid: { IsValid ty },
-    ghost planned: { PlansFor (tree ty) plan },
+    ghost guided: { IsPrepared (tree ty) prepared } by { Prim.hlevel (props, guide_prop) },
 }
 
 impl<F: Shows + Drop> Samples<F> {
-    pub fn new(rep: Rep, ty: XType, form: F) -> Samples<F>
+    /// Before any sample, with what is made of the type once.
+    pub fn prepared(alloc: Global, rep: Rep, ty: XType, form: F) -> Samples<F>
         requires { IsValid ty }
         ensures rep { result.rep ≡ rep }
         ensures ty { result.ty ≡ ty }
         ensures form { result.form ≡ form }
     {
+        let prepared = Prepared::of(alloc, rep, &ty);
         Samples {
             rep,
             ty,
             form,
-            plan: None,
-        }
-    }
-
-    /// The same, where plain samples are shown by a plan of the type, if it has one.
-    pub fn planned(alloc: Global, rep: Rep, ty: XType, form: F) -> Samples<F>
-        requires { IsValid ty }
-        ensures rep { result.rep ≡ rep }
-        ensures ty { result.ty ≡ ty }
-        ensures form { result.form ≡ form }
-    {
-        let plan = plan_for(alloc, rep, &ty);
-        Samples {
-            rep,
-            ty,
-            form,
-            plan,
+            prepared,
         }
     }
 }
@@ -84,7 +71,14 @@ impl<F: Shows + Drop> Turns for Samples<F> {
         block: &mut Block,
     ) -> (BundleReader<S>, Result<(), Stop>) {
         let (back, shown) = sample_piece(
-            alloc, &self.form, self.rep, &self.ty, &self.plan, head, reader, gathered,
+            alloc,
+            &self.form,
+            self.rep,
+            &self.ty,
+            &self.prepared,
+            head,
+            reader,
+            gathered,
         );
         match shown {
             Err(stop) => (back, Err(stop)),

@@ -1,6 +1,5 @@
 -- Loops over parts, and parts one after another.
 use Rattle.std.proofs.Common.{◌≡◌, refl, sym, ap, ◌∙◌, subst, ℕ, suc, ◌+◌, ◌-◌, ◌<◌, ◌≤◌, Bool, true, false, List, [], ◌∷◌, length, drop, Option, Some, None, Ok, arith, get_or}
-use Rattle.std.proofs.lemmas.Bool.{and_parts}
 use Rattle.xt_shapes.specs.declared.leaves.Order.{Order}
 use Rattle.xt_shapes.specs.declared.leaves.Try.{Try}
 use Rattle.xt_shapes.specs.Defaults.{default_of}
@@ -8,7 +7,7 @@ use Rattle.xt_shapes.specs.Shape.{Head, Shape}
 use Rattle.xt_shapes.specs.Vals.{Val, Slot as Body}
 use Rattle.type_trees.specs.declared.types.Member as declared
 use Rattle.type_trees.specs.Bridge.{type_shape, members_shape, member_head}
-use Rattle.xcdr_model.specs.Premises.{distinct_members, sound, sound_members}
+use Rattle.xcdr_model.specs.Premises.{distinct_members}
 use Rattle.xcdr_model.specs.Projection.{Part, whole_items, whole_entries}
 use Rattle.xcdr_model.specs.Reading.{Spot, Reading, ◌>>=◌, number_at, each_at}
 use Rattle.xcdr_model.specs.Xcdr2Reading.{done}
@@ -151,14 +150,6 @@ members_none m cut ms i g {b = b} le u = rephrased (members_from m cut ms i g) (
 
 pub members_begin : (m : Mode) (cut : Bool) (ms : List declared.Member) (g : Option (List Body) × Bool) (a : Standing) → g ≡ (Some [], false) → distinct_members (members_shape ms) ≡ true → Ahead (members_read m cut (members_shape ms)) (members_from m cut ms 0 g) a a
 members_begin m cut ms g a e apart = begins (members_read m cut (members_shape ms)) _ a (λ s. rw e (members_start m a.order cut (members_shape ms) s apart))
-
-pub sound_here : (ms : List declared.Member) (i : ℕ) (m : declared.Member) → sound_members (members_shape (drop i ms)) ≡ true → i < length ms → m ≡ get_or ms i m → sound (type_shape m.ty) ≡ true
-sound_here ms i m ok within is =
-    let all = ap sound_members (sym (next_shape ms i m within)) ∙ ok in
-    subst (λ (n : declared.Member). sound (type_shape n.ty) ≡ true) (sym is) (and_parts _ _ all).0
-
-pub sound_more : (ms : List declared.Member) (i : ℕ) (m : declared.Member) → sound_members (members_shape (drop i ms)) ≡ true → i < length ms → sound_members (members_shape (drop (i + 1) ms)) ≡ true
-sound_more ms i m ok within = (and_parts _ _ (ap sound_members (sym (next_shape ms i m within)) ∙ ok)).1
 
 -- ---- a member
 

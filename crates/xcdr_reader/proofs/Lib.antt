@@ -13,6 +13,7 @@ pub mod InBlocks
 pub mod CaseSteps
 pub mod PieceSteps
 pub mod KindSteps
+pub mod GuideParts
 pub mod LeafSteps
 pub mod ModeSteps
 pub mod Values

@@ -2,6 +2,7 @@
 ghost use Rattle.std.specs.Prelude.{◌≡◌, IfOk};
 ghost use Rattle.type_trees.specs.Bridge.{type_shape};
 ghost use Rattle.projection_laws.specs.Premises.{IsValid};
+ghost use Rattle.settled_parts.specs.Guides.{IsGuide};
 ghost use Rattle.settled_parts.specs.Settling.{outcome_val};
 ghost use Rattle.xt_wire.specs.cursor.Decoding.{Decodes};
 ghost use Rattle.xt_wire.specs.cursor.Outcomes.{ComesTyped, ComesLight};
@@ -10,7 +11,7 @@ ghost use Rattle.xcdr_reader.specs.Bodies.{value_outcome, nothing_left, behind_u
 
 use crate::decode::read_part;
 use crate::modes::Mode;
-use settled_parts::{Outcome, outcome};
+use settled_parts::{Guide, Outcome, outcome};
 use std::alloc::Global;
 use type_rules::shape_keeps_rules;
 use type_trees::XType;
@@ -65,14 +66,16 @@ fn read_value<C: Peeking>(
     alloc: Global,
     rep: Rep,
     reader: &XType,
+    guide: &Guide,
     cursor: &mut C,
 ) -> Result<Outcome, DecodeFault>
-    requires { IsValid reader.now }
+    requires valid { IsValid reader.now }
+    requires guide { IsGuide (type_shape reader.now) guide.now }
     ensures { Decodes outcome_val (value_outcome rep (type_shape reader.now)) (C.state cursor.old) (C.state cursor.new) result }
 {
     shape_keeps_rules();
     shape_laws::premises_hold();
-    let part = read_part(alloc, reader, Mode::of(rep), cursor)?;
+    let part = read_part(alloc, reader, guide, Mode::of(rep), cursor)?;
     end_value(cursor, rep, reader)?;
     Ok(outcome(part))
 }
@@ -80,6 +83,7 @@ fn read_value<C: Peeking>(
 /// Reads one value of the reader's type in that representation, at any place of the cursor's region; what is left behind the value is no
 /// fault, except behind a union in XCDR1, whose case has the rest of the region (Trailing). No writer's type is known (DDS-XTypes 1.3, 7.4.1
 /// and 7.4.2). A value that comes out has the reader's type, and at most the type's weight and 128 nodes for each octet that was read.
+#[tactic(auto, using(settled_parts::proofs::GuideSteps::nothing_guides))]
 pub fn decode_value<C: Cursor>(
     alloc: Global,
     rep: Rep,
@@ -91,11 +95,30 @@ pub fn decode_value<C: Cursor>(
     ensures light { IfOk result (λ x. ComesLight (type_shape reader.now) (C.state cursor.old) (C.state cursor.new) (outcome_val x)) }
     ensures value { Decodes outcome_val (value_outcome rep (type_shape reader.now)) (C.state cursor.old) (C.state cursor.new) result }
 {
+    let guide = Guide::nothing(alloc);
+    decode_guided(alloc, rep, reader, &guide, cursor)
+}
+
+/// Reads one value as `decode_value` does, with the same faults. By the type's guide (`Guide::of(alloc, reader)`) literals of enumerations and
+/// labels of unions are found in a number of steps that is logarithmic in how many there are.
+pub fn decode_guided<C: Cursor>(
+    alloc: Global,
+    rep: Rep,
+    reader: &XType,
+    guide: &Guide,
+    cursor: &mut C,
+) -> Result<Outcome, DecodeFault>
+    requires valid { IsValid reader.now }
+    requires guide { IsGuide (type_shape reader.now) guide.now }
+    ensures typed { IfOk result (λ x. ComesTyped (type_shape reader.now) (C.state cursor.old) (outcome_val x)) }
+    ensures light { IfOk result (λ x. ComesLight (type_shape reader.now) (C.state cursor.old) (C.state cursor.new) (outcome_val x)) }
+    ensures value { Decodes outcome_val (value_outcome rep (type_shape reader.now)) (C.state cursor.old) (C.state cursor.new) result }
+{
     shape_keeps_rules();
     shape_laws::value_typed();
     shape_laws::value_nodes_bound();
     let mut again = Rereading::new(cursor);
-    read_value(alloc, rep, reader, &mut again)
+    read_value(alloc, rep, reader, guide, &mut again)
 }
 
 /// Reads one value in XCDR1, as `decode_value` does.

@@ -8,6 +8,7 @@ ghost use Rattle.xcdr_model.specs.Premises.{sound, distinct_members, sound_membe
 ghost use Rattle.xcdr_model.specs.Projection.{whole_structure};
 ghost use Rattle.xcdr_model.specs.Reading.{filling};
 ghost use Rattle.xcdr_model.specs.Xcdr2Reading.{read};
+ghost use Rattle.settled_parts.specs.Guides.{IsGuide, AreGuides, AreCaseGuides, TellsCases, part_at};
 ghost use Rattle.settled_parts.specs.Members.{by_member, slots_of};
 ghost use Rattle.settled_parts.specs.Parts.{part_of};
 ghost use Rattle.settled_parts.specs.Unions.{case_of};
@@ -28,7 +29,7 @@ use crate::leaves::{
 };
 use crate::modes::Mode;
 use settled_parts::{
-    Entries, Items, Part, SettledCase, Slots, fits_disc, settle_case, slot_from, whole_union,
+    Entries, Guide, Items, Part, SettledCase, Slots, settle_case, slot_from, whole_union,
 };
 use std::alloc::Global;
 use type_trees::{Case, Elem, MapType, Member, StructType, UnionType, XType, as_prim};
@@ -46,14 +47,16 @@ use xt_wire::cursor::{
 pub(crate) fn read_part<C: Peeking>(
     alloc: Global,
     ty: &XType,
+    guide: &Guide,
     mode: Mode,
     cursor: &mut C,
 ) -> Result<Part, DecodeFault>
-    requires { sound (type_shape ty.now) ≡ true }
+    requires sound { sound (type_shape ty.now) ≡ true }
+    requires guide { IsGuide (type_shape ty.now) guide.now }
     ensures { Decodes part_of (λ o s. read_in mode o (type_shape ty.now) s) (C.state cursor.old) (C.state cursor.new) result }
 {
     let frame = open_frame(cursor, mode.framing(ty))?;
-    let part = read_inside(alloc, ty, mode, cursor)?;
+    let part = read_inside(alloc, ty, guide, mode, cursor)?;
     close_frame(cursor, frame)?;
     Ok(part)
 }
@@ -64,26 +67,44 @@ pub(crate) fn read_part<C: Peeking>(
 fn read_inside<C: Peeking>(
     alloc: Global,
     ty: &XType,
+    guide: &Guide,
     mode: Mode,
     cursor: &mut C,
 ) -> Result<Part, DecodeFault>
-    requires { sound (type_shape ty.now) ≡ true }
+    requires sound { sound (type_shape ty.now) ≡ true }
+    requires guide { IsGuide (type_shape ty.now) guide.now }
     ensures { Decodes part_of (inside mode (type_shape ty.now)) (C.state cursor.old) (C.state cursor.new) result }
 {
     match ty {
         XType::Prim(prim) => read_prim_part(cursor, mode, *prim),
         XType::Str(bound) => read_text_part(alloc, cursor, mode, *bound),
-        XType::Enum(kind) => read_enum_part(cursor, mode, kind),
+        XType::Enum(kind) => read_enum_part(cursor, mode, kind, guide),
         XType::Mask(kind) => read_mask_part(cursor, mode, kind),
-        XType::Seq(kind) => read_items(alloc, &kind.elem, kind.bound, None, mode.inner(), cursor),
+        XType::Seq(kind) => read_items(
+            alloc,
+            &kind.elem,
+            guide.part(0),
+            kind.bound,
+            None,
+            mode.inner(),
+            cursor,
+        ),
         XType::Array(kind) => {
             let count = array_count(kind.dims.as_slice())?;
-            read_items(alloc, &kind.elem, 0, Some(count), mode.inner(), cursor)
+            read_items(
+                alloc,
+                &kind.elem,
+                guide.part(0),
+                0,
+                Some(count),
+                mode.inner(),
+                cursor,
+            )
         }
-        XType::Map(kind) => read_entries(alloc, kind, mode.inner(), cursor),
-        XType::Struct(kind) => read_structure(alloc, kind, mode, cursor),
-        XType::Union(kind) => read_union(alloc, kind, mode, cursor),
-        XType::Alias(kind) => read_inside(alloc, &kind.ty, mode, cursor),
+        XType::Map(kind) => read_entries(alloc, kind, guide, mode.inner(), cursor),
+        XType::Struct(kind) => read_structure(alloc, kind, guide, mode, cursor),
+        XType::Union(kind) => read_union(alloc, kind, guide, mode, cursor),
+        XType::Alias(kind) => read_inside(alloc, &kind.ty, guide, mode, cursor),
     }
 }
 
@@ -91,12 +112,14 @@ fn read_inside<C: Peeking>(
 fn read_items<C: Peeking>(
     alloc: Global,
     elem: &Elem,
+    guide: &Guide,
     bound: u32,
     given: Option<u64>,
     mode: Mode,
     cursor: &mut C,
 ) -> Result<Part, DecodeFault>
-    requires { sound (type_shape elem.now.ty) ≡ true }
+    requires sound { sound (type_shape elem.now.ty) ≡ true }
+    requires guide { IsGuide (type_shape elem.now.ty) guide.now }
     ensures { Decodes part_of (items_read mode bound elem.now.tc (type_shape elem.now.ty) given) (C.state cursor.old) (C.state cursor.new) result }
 {
     let count = read_count(cursor, given)?;
@@ -105,7 +128,7 @@ fn read_items<C: Peeking>(
     }
     let mut items = Items::new(alloc);
     for at in 0..count {
-        let part = read_part(alloc, &elem.ty, mode, cursor)?;
+        let part = read_part(alloc, &elem.ty, guide, mode, cursor)?;
         items.take(alloc, bound, elem, part)?;
     }
     Ok(items.part())
@@ -115,18 +138,21 @@ fn read_items<C: Peeking>(
 fn read_entries<C: Peeking>(
     alloc: Global,
     kind: &MapType,
+    guide: &Guide,
     mode: Mode,
     cursor: &mut C,
 ) -> Result<Part, DecodeFault>
     requires key { sound (type_shape kind.now.key.ty) ≡ true }
     requires value { sound (type_shape kind.now.value.ty) ≡ true }
+    requires key_guide { IsGuide (type_shape kind.now.key.ty) (part_at guide.now 0) }
+    requires value_guide { IsGuide (type_shape kind.now.value.ty) (part_at guide.now 1) }
     ensures { Decodes part_of (entries_read mode kind.now.bound kind.now.key.tc (type_shape kind.now.key.ty) kind.now.value.tc (type_shape kind.now.value.ty)) (C.state cursor.old) (C.state cursor.new) result }
 {
     let count = read_number(cursor, 4, 4)?;
     let mut entries = Entries::new(alloc);
     for at in 0..count {
-        let key = read_part(alloc, &kind.key.ty, mode, cursor)?;
-        let value = read_part(alloc, &kind.value.ty, mode, cursor)?;
+        let key = read_part(alloc, &kind.key.ty, guide.part(0), mode, cursor)?;
+        let value = read_part(alloc, &kind.value.ty, guide.part(1), mode, cursor)?;
         entries.take(alloc, kind, key, value)?;
     }
     Ok(entries.part(alloc)?)
@@ -136,17 +162,19 @@ fn read_entries<C: Peeking>(
 fn read_structure<C: Peeking>(
     alloc: Global,
     kind: &StructType,
+    guide: &Guide,
     mode: Mode,
     cursor: &mut C,
 ) -> Result<Part, DecodeFault>
-    requires { sound (shape (struct_tree kind.now)) ≡ true }
+    requires sound { sound (shape (struct_tree kind.now)) ≡ true }
+    requires guide { IsGuide (shape (struct_tree kind.now)) guide.now }
     ensures { Decodes part_of (inside mode (shape (struct_tree kind.now))) (C.state cursor.old) (C.state cursor.new) result }
 {
     let members = kind.members.as_slice();
     match kind.ext {
-        Ext::Final => read_members(alloc, members, false, mode, cursor),
-        Ext::Appendable => read_appended(alloc, members, mode, cursor),
-        Ext::Mutable => read_pieces(alloc, members, mode, cursor),
+        Ext::Final => read_members(alloc, members, guide, false, mode, cursor),
+        Ext::Appendable => read_appended(alloc, members, guide, mode, cursor),
+        Ext::Mutable => read_pieces(alloc, members, guide, mode, cursor),
     }
 }
 
@@ -155,17 +183,19 @@ fn read_structure<C: Peeking>(
 fn read_appended<C: Peeking>(
     alloc: Global,
     members: &[Member],
+    guide: &Guide,
     mode: Mode,
     cursor: &mut C,
 ) -> Result<Part, DecodeFault>
     requires apart { distinct_members (members_shape members.now) ≡ true }
     requires sound { sound_members (members_shape members.now) ≡ true }
+    requires guide { AreGuides (members_shape members.now) guide.now 0 }
     ensures { Decodes part_of (appended_read mode (members_shape members.now)) (C.state cursor.old) (C.state cursor.new) result }
 {
     if mode.may_end() {
-        return read_cut(alloc, members, mode, cursor);
+        return read_cut(alloc, members, guide, mode, cursor);
     }
-    read_members(alloc, members, false, mode, cursor)
+    read_members(alloc, members, guide, false, mode, cursor)
 }
 
 // Reads members of a region that may end before the last, and has what is left of it.
@@ -173,14 +203,16 @@ fn read_appended<C: Peeking>(
 fn read_cut<C: Peeking>(
     alloc: Global,
     members: &[Member],
+    guide: &Guide,
     mode: Mode,
     cursor: &mut C,
 ) -> Result<Part, DecodeFault>
     requires apart { distinct_members (members_shape members.now) ≡ true }
     requires sound { sound_members (members_shape members.now) ≡ true }
+    requires guide { AreGuides (members_shape members.now) guide.now 0 }
     ensures { Decodes part_of (cut_read mode (members_shape members.now)) (C.state cursor.old) (C.state cursor.new) result }
 {
-    let part = read_members(alloc, members, true, mode, cursor)?;
+    let part = read_members(alloc, members, guide, true, mode, cursor)?;
     pass_rest(cursor, mode)?;
     Ok(part)
 }
@@ -189,17 +221,19 @@ fn read_cut<C: Peeking>(
 fn read_members<C: Peeking>(
     alloc: Global,
     members: &[Member],
+    guide: &Guide,
     cut: bool,
     mode: Mode,
     cursor: &mut C,
 ) -> Result<Part, DecodeFault>
     requires apart { distinct_members (members_shape members.now) ≡ true }
     requires sound { sound_members (members_shape members.now) ≡ true }
+    requires guide { AreGuides (members_shape members.now) guide.now 0 }
     ensures { Decodes part_of (members_read mode cut (members_shape members.now)) (C.state cursor.old) (C.state cursor.new) result }
 {
     let mut slots = Slots::new(alloc);
-    for member in members {
-        read_slot(alloc, member, cut, mode, &mut slots, cursor)?;
+    for (at, member) in members.iter().enumerate() {
+        read_slot(alloc, member, guide.part(at), cut, mode, &mut slots, cursor)?;
     }
     Ok(slots.part())
 }
@@ -210,12 +244,14 @@ fn read_members<C: Peeking>(
 fn read_slot<C: Peeking>(
     alloc: Global,
     member: &Member,
+    guide: &Guide,
     cut: bool,
     mode: Mode,
     slots: &mut Slots,
     cursor: &mut C,
 ) -> Result<(), DecodeFault>
-    requires { sound (type_shape member.now.ty) ≡ true }
+    requires sound { sound (type_shape member.now.ty) ≡ true }
+    requires guide { IsGuide (type_shape member.now.ty) guide.now }
     ensures { Decodes (λ u. slots_of slots.new) (slot_more mode cut (member_head member.now) (type_shape member.now.ty) (slots_of slots.old)) (C.state cursor.old) (C.state cursor.new) result }
 {
     match read_coming(cursor, mode, cut, member.optional, member.id)? {
@@ -225,12 +261,12 @@ fn read_slot<C: Peeking>(
             Ok(())
         }
         Coming::Here => {
-            let part = read_part(alloc, &member.ty, mode.inner(), cursor)?;
+            let part = read_part(alloc, &member.ty, guide, mode.inner(), cursor)?;
             slots.take_part(alloc, member, part)?;
             Ok(())
         }
         Coming::Content(length) => {
-            let part = read_content(alloc, &member.ty, length, mode, cursor)?;
+            let part = read_content(alloc, &member.ty, guide, length, mode, cursor)?;
             slots.take_part(alloc, member, part)?;
             Ok(())
         }
@@ -242,16 +278,18 @@ fn read_slot<C: Peeking>(
 fn read_pieces<C: Peeking>(
     alloc: Global,
     members: &[Member],
+    guide: &Guide,
     mode: Mode,
     cursor: &mut C,
 ) -> Result<Part, DecodeFault>
     requires apart { distinct_members (members_shape members.now) ≡ true }
     requires sound { sound_members (members_shape members.now) ≡ true }
+    requires guide { AreGuides (members_shape members.now) guide.now 0 }
     ensures { Decodes part_of (mutable_read mode (members_shape members.now)) (C.state cursor.old) (C.state cursor.new) result }
 {
     let mut known = Known::new(alloc, members)?;
     for turn in 0..cursor.region_end() - cursor.place() {
-        let Some(piece) = read_next(alloc, members, &known, mode, cursor)? else {
+        let Some(piece) = read_next(alloc, members, guide, &known, mode, cursor)? else {
             return Ok(known.part(alloc, members)?);
         };
         known.keep(alloc, members, piece)?;
@@ -282,6 +320,7 @@ fn end_pieces<C: Cursor>(
 fn read_next<C: Peeking>(
     alloc: Global,
     members: &[Member],
+    guide: &Guide,
     known: &Known,
     mode: Mode,
     cursor: &mut C,
@@ -290,6 +329,7 @@ fn read_next<C: Peeking>(
     requires sound { sound_members (members_shape members.now) ≡ true }
     requires count { length (by_member known.now.slots).1 ≡ length members.now }
     requires indexed { IsIndexed (members_shape members.now) known.now }
+    requires guide { AreGuides (members_shape members.now) guide.now 0 }
     ensures new { IfOk result (λ x. IfSome x (IsNew (members_shape members.now) known.now)) }
     ensures within { IfOk result (λ x. IfSome x (IsWithin (length members.now))) }
     ensures value { Decodes (option_map piece_of) (next_piece mode (members_shape members.now) (has_come (members_shape members.now) known.now)) (C.state cursor.old) (C.state cursor.new) result }
@@ -301,7 +341,7 @@ fn read_next<C: Peeking>(
             Ok(Some(Piece::Unknown(false)))
         }
         Heading::Member(header) => {
-            let piece = read_piece(alloc, members, header, known, mode, cursor)?;
+            let piece = read_piece(alloc, members, guide, header, known, mode, cursor)?;
             Ok(Some(piece))
         }
     }
@@ -312,6 +352,7 @@ fn read_next<C: Peeking>(
 fn read_piece<C: Peeking>(
     alloc: Global,
     members: &[Member],
+    guide: &Guide,
     header: Header,
     known: &Known,
     mode: Mode,
@@ -323,6 +364,7 @@ fn read_piece<C: Peeking>(
     requires indexed { IsIndexed (members_shape members.now) known.now }
     requires room { header.length ≤ room (C.state cursor.old) }
     requires at { (C.state cursor.old).origin ≤ header.at }
+    requires guide { AreGuides (members_shape members.now) guide.now 0 }
     ensures new { IfOk result (IsNew (members_shape members.now) known.now) }
     ensures within { IfOk result (IsWithin (length members.now)) }
     ensures behind { OnOk result ((C.state cursor.new).place ≡ (C.state cursor.old).place + header.length) }
@@ -334,7 +376,14 @@ fn read_piece<C: Peeking>(
             Ok(Piece::Unknown(header.must))
         }
         Some(at) => {
-            let part = read_member(alloc, &members[at], header.length, mode, cursor)?;
+            let part = read_member(
+                alloc,
+                &members[at],
+                guide.part(at),
+                header.length,
+                mode,
+                cursor,
+            )?;
             Ok(Piece::Came(at, header.id, part))
         }
     }
@@ -346,16 +395,18 @@ fn read_piece<C: Peeking>(
 fn read_member<C: Peeking>(
     alloc: Global,
     member: &Member,
+    guide: &Guide,
     length: u64,
     mode: Mode,
     cursor: &mut C,
 ) -> Result<Part, DecodeFault>
     requires sound { sound (type_shape member.now.ty) ≡ true }
     requires room { length ≤ room (C.state cursor.old) }
+    requires guide { IsGuide (type_shape member.now.ty) guide.now }
     ensures behind { OnOk result ((C.state cursor.new).place ≡ (C.state cursor.old).place + length) }
     ensures value { Decodes part_of (content_in mode length (type_shape member.now.ty)) (C.state cursor.old) (C.state cursor.new) result }
 {
-    read_content(alloc, &member.ty, length, mode, cursor)
+    read_content(alloc, &member.ty, guide, length, mode, cursor)
 }
 
 // Reads the content of `length` octets that a member's header counts.
@@ -363,19 +414,21 @@ fn read_member<C: Peeking>(
 fn read_content<C: Peeking>(
     alloc: Global,
     ty: &XType,
+    guide: &Guide,
     length: u64,
     mode: Mode,
     cursor: &mut C,
 ) -> Result<Part, DecodeFault>
     requires sound { sound (type_shape ty.now) ≡ true }
     requires room { length ≤ room (C.state cursor.old) }
+    requires guide { IsGuide (type_shape ty.now) guide.now }
     ensures behind { OnOk result ((C.state cursor.new).place ≡ (C.state cursor.old).place + length) }
     ensures value { Decodes part_of (content_in mode length (type_shape ty.now)) (C.state cursor.old) (C.state cursor.new) result }
 {
     match mode {
-        Mode::Two => read_filled(alloc, ty, length, cursor),
-        Mode::Inner => read_parameter_content(alloc, ty, length, cursor),
-        Mode::Tail => read_parameter_content(alloc, ty, length, cursor),
+        Mode::Two => read_filled(alloc, ty, guide, length, cursor),
+        Mode::Inner => read_parameter_content(alloc, ty, guide, length, cursor),
+        Mode::Tail => read_parameter_content(alloc, ty, guide, length, cursor),
     }
 }
 
@@ -384,16 +437,18 @@ fn read_content<C: Peeking>(
 fn read_filled<C: Peeking>(
     alloc: Global,
     ty: &XType,
+    guide: &Guide,
     length: u64,
     cursor: &mut C,
 ) -> Result<Part, DecodeFault>
     requires sound { sound (type_shape ty.now) ≡ true }
     requires room { length ≤ room (C.state cursor.old) }
+    requires guide { IsGuide (type_shape ty.now) guide.now }
     ensures behind { OnOk result ((C.state cursor.new).place ≡ (C.state cursor.old).place + length) }
     ensures value { Decodes part_of (λ o s. filling length (λ s1. read o (type_shape ty.now) s1) s) (C.state cursor.old) (C.state cursor.new) result }
 {
     let outer = enter_part(cursor, length)?;
-    let part = read_part(alloc, ty, Mode::Two, cursor)?;
+    let part = read_part(alloc, ty, guide, Mode::Two, cursor)?;
     close_frame(
         cursor,
         Frame {
@@ -409,16 +464,18 @@ fn read_filled<C: Peeking>(
 fn read_parameter_content<C: Peeking>(
     alloc: Global,
     ty: &XType,
+    guide: &Guide,
     length: u64,
     cursor: &mut C,
 ) -> Result<Part, DecodeFault>
     requires sound { sound (type_shape ty.now) ≡ true }
     requires room { length ≤ room (C.state cursor.old) }
+    requires guide { IsGuide (type_shape ty.now) guide.now }
     ensures behind { OnOk result ((C.state cursor.new).place ≡ (C.state cursor.old).place + length) }
     ensures value { Decodes part_of (parameter_content length (type_shape ty.now)) (C.state cursor.old) (C.state cursor.new) result }
 {
     let content = open_content(cursor, length)?;
-    let part = read_part(alloc, ty, Mode::Tail, cursor)?;
+    let part = read_part(alloc, ty, guide, Mode::Tail, cursor)?;
     close_content(cursor, content, spare_of(ty))?;
     Ok(part)
 }
@@ -427,15 +484,17 @@ fn read_parameter_content<C: Peeking>(
 fn read_union<C: Peeking>(
     alloc: Global,
     kind: &UnionType,
+    guide: &Guide,
     mode: Mode,
     cursor: &mut C,
 ) -> Result<Part, DecodeFault>
-    requires { sound (shape (union_tree kind.now)) ≡ true }
+    requires sound { sound (shape (union_tree kind.now)) ≡ true }
+    requires guide { IsGuide (shape (union_tree kind.now)) guide.now }
     ensures { Decodes part_of (inside mode (shape (union_tree kind.now))) (C.state cursor.old) (C.state cursor.new) result }
 {
     match kind.ext {
-        Ext::Final => read_selected(alloc, kind, false, mode, cursor),
-        Ext::Appendable => read_selected(alloc, kind, mode.may_end(), mode, cursor),
+        Ext::Final => read_selected(alloc, kind, guide, false, mode, cursor),
+        Ext::Appendable => read_selected(alloc, kind, guide, mode.may_end(), mode, cursor),
         Ext::Mutable => Err(short(cursor.place())),
     }
 }
@@ -444,16 +503,26 @@ fn read_union<C: Peeking>(
 fn read_selected<C: Peeking>(
     alloc: Global,
     kind: &UnionType,
+    guide: &Guide,
     filled: bool,
     mode: Mode,
     cursor: &mut C,
 ) -> Result<Part, DecodeFault>
-    requires { sound_cases (cases_shape (out-UnionType kind.now).cases) ≡ true }
+    requires sound { sound_cases (cases_shape (out-UnionType kind.now).cases) ≡ true }
+    requires guide { IsGuide (shape (union_tree kind.now)) guide.now }
     ensures { Decodes part_of (union_read mode filled (type_shape (out-UnionType kind.now).disc) (cases_shape (out-UnionType kind.now).cases)) (C.state cursor.old) (C.state cursor.new) result }
 {
     let number = read_disc(cursor, mode, &kind.disc)?;
-    let case = read_case(alloc, kind.cases.as_slice(), number, filled, mode, cursor)?;
-    let fits = fits_disc(&kind.disc, number);
+    let case = read_case(
+        alloc,
+        kind.cases.as_slice(),
+        guide,
+        number,
+        filled,
+        mode,
+        cursor,
+    )?;
+    let fits = guide.part(0).fits_disc(&kind.disc, number);
     Ok(whole_union(alloc, fits, number, case)?)
 }
 
@@ -462,22 +531,25 @@ fn read_selected<C: Peeking>(
 fn read_case<C: Peeking>(
     alloc: Global,
     cases: &[Case],
+    guide: &Guide,
     number: i128,
     filled: bool,
     mode: Mode,
     cursor: &mut C,
 ) -> Result<SettledCase, DecodeFault>
-    requires { sound_cases (cases_shape cases.now) ≡ true }
+    requires sound { sound_cases (cases_shape cases.now) ≡ true }
+    requires tells { TellsCases (cases_shape cases.now) guide.now }
+    requires guide { AreCaseGuides (cases_shape cases.now) guide.now 1 }
     ensures { Decodes case_of (case_in mode filled (cases_shape cases.now) number) (C.state cursor.old) (C.state cursor.new) result }
 {
-    match choose(cases, number, filled, has_ended(cursor, true)) {
+    match choose(guide, cases, number, filled, has_ended(cursor, true)) {
         Choice::NoCase => Ok(SettledCase::NoCase),
         Choice::OneSided => {
             pass_rest(cursor, mode)?;
             Ok(SettledCase::OneSided)
         }
         Choice::Missing => Err(short(cursor.place())),
-        Choice::Case(at) => read_body(alloc, &cases[at], filled, mode, cursor),
+        Choice::Case(at) => read_body(alloc, &cases[at], guide.part(at + 1), filled, mode, cursor),
     }
 }
 
@@ -485,14 +557,16 @@ fn read_case<C: Peeking>(
 fn read_body<C: Peeking>(
     alloc: Global,
     case: &Case,
+    guide: &Guide,
     filled: bool,
     mode: Mode,
     cursor: &mut C,
 ) -> Result<SettledCase, DecodeFault>
-    requires { sound (type_shape case.now.ty) ≡ true }
+    requires sound { sound (type_shape case.now.ty) ≡ true }
+    requires guide { IsGuide (type_shape case.now.ty) guide.now }
     ensures { Decodes case_of (body_read mode filled (case_head case.now) (type_shape case.now.ty)) (C.state cursor.old) (C.state cursor.new) result }
 {
-    let part = read_whole(alloc, &case.ty, filled, mode, cursor)?;
+    let part = read_whole(alloc, &case.ty, guide, filled, mode, cursor)?;
     Ok(settle_case(alloc, case, part)?)
 }
 
@@ -501,16 +575,18 @@ fn read_body<C: Peeking>(
 fn read_whole<C: Peeking>(
     alloc: Global,
     ty: &XType,
+    guide: &Guide,
     filled: bool,
     mode: Mode,
     cursor: &mut C,
 ) -> Result<Part, DecodeFault>
-    requires { sound (type_shape ty.now) ≡ true }
+    requires sound { sound (type_shape ty.now) ≡ true }
+    requires guide { IsGuide (type_shape ty.now) guide.now }
     ensures { Decodes part_of (whole_read mode filled (type_shape ty.now)) (C.state cursor.old) (C.state cursor.new) result }
 {
     if mode.fills(filled) {
         let left = cursor.region_end() - cursor.place();
-        return read_content(alloc, ty, left, mode, cursor);
+        return read_content(alloc, ty, guide, left, mode, cursor);
     }
-    read_part(alloc, ty, mode, cursor)
+    read_part(alloc, ty, guide, mode, cursor)
 }

@@ -7,13 +7,14 @@ ghost use Rattle.xcdr_model.specs.Xcdr2Reading.{scalar_at};
 ghost use Rattle.xcdr_model.specs.Xcdr1Reading.{is_open};
 ghost use Rattle.xcdr_steps.specs.one.Contents.{spare};
 ghost use Rattle.xcdr_reader.specs.Modes.{read_in, most};
+ghost use Rattle.settled_parts.specs.Guides.{TellsLiterals};
 ghost use Rattle.settled_parts.specs.Parts.{part_of};
 ghost use Rattle.xt_wire.specs.cursor.Decoding.{Decodes};
 ghost use Rattle.xt_wire.specs.declared.cursor.faults.DecodeFault.TheVariants.{Malformed};
 ghost use Rattle.xcdr_model.specs.declared.malformed.Why.TheVariants.{Short};
 
 use crate::modes::Mode;
-use settled_parts::{Part, enum_part, text_from};
+use settled_parts::{Guide, Part, text_from};
 use std::alloc::Global;
 use type_trees::{EnumType, MaskType, XType};
 use xcdr_model::Why;
@@ -38,11 +39,13 @@ pub(crate) fn read_enum_part<C: Cursor>(
     cursor: &mut C,
     mode: Mode,
     kind: &EnumType,
+    guide: &Guide,
 ) -> Result<Part, DecodeFault>
+    requires { TellsLiterals (map literal_shape kind.now.literals) guide.now }
     ensures { Decodes part_of (λ o s. read_in mode o (model.enumeration kind.now.ext kind.now.bits (map literal_shape kind.now.literals)) s) (C.state cursor.old) (C.state cursor.new) result }
 {
     let number = read_enum(cursor, mode.most(), kind.bits)?;
-    Ok(enum_part(kind.literals.as_slice(), number))
+    Ok(guide.enum_part(kind.literals.as_slice(), number))
 }
 
 pub(crate) fn read_mask_part<C: Cursor>(

@@ -10,4 +10,4 @@ mod known;
 mod leaves;
 mod modes;
 
-pub use body::{decode_value, decode1, decode2};
+pub use body::{decode_guided, decode_value, decode1, decode2};

@@ -5,4 +5,4 @@
 pub mod frames;
 mod samples;
 
-pub use samples::{read_sample, read_sample1, read_sample2};
+pub use samples::{read_guided, read_sample, read_sample1, read_sample2};

@@ -3,17 +3,18 @@ ghost use Rattle.std.specs.Prelude.{◌≡◌, IfOk, OnOk};
 ghost use Rattle.xt_shapes.specs.declared.leaves.Rep.TheVariants.{Xcdr1, Xcdr2};
 ghost use Rattle.type_trees.specs.Bridge.{type_shape};
 ghost use Rattle.projection_laws.specs.Premises.{IsValid};
+ghost use Rattle.settled_parts.specs.Guides.{IsGuide};
 ghost use Rattle.settled_parts.specs.Settling.{outcome_val};
 ghost use Rattle.xt_wire.specs.cursor.Decoding.{Decodes};
 ghost use Rattle.xt_wire.specs.cursor.Outcomes.{ComesTyped, ComesLight};
 ghost use Rattle.xcdr_samples.specs.Samples.{sample_outcome};
 
 use crate::frames::{close_sample, open_sample};
-use settled_parts::Outcome;
+use settled_parts::{Guide, Outcome};
 use std::alloc::Global;
 use type_rules::shape_keeps_rules;
 use type_trees::XType;
-use xcdr_reader::decode_value;
+use xcdr_reader::decode_guided;
 use xt_shapes::Rep;
 use xt_wire::cursor::{Cursor, DecodeFault};
 use xt_wire::numbers::top_of;
@@ -29,6 +30,7 @@ use xt_wire::numbers::top_of;
 /// body's first octet; Trailing at the first octet of the body that is left behind the value. ReadFault comes only where the cursor's count
 /// of faults rose. After a fault the cursor stands at some place of its old region that is not before the old one. A value that comes out has
 /// the reader's type, and at most the type's weight and 128 nodes for each octet of the region.
+#[tactic(auto, using(settled_parts::proofs::GuideSteps::nothing_guides))]
 pub fn read_sample<C: Cursor>(
     alloc: Global,
     rep: Rep,
@@ -41,12 +43,32 @@ pub fn read_sample<C: Cursor>(
     ensures light { IfOk result (λ x. ComesLight (type_shape reader.now) (C.state cursor.old) (C.state cursor.new) (outcome_val x)) }
     ensures value { Decodes outcome_val (sample_outcome rep (type_shape reader.now)) (C.state cursor.old) (C.state cursor.new) result }
 {
+    let guide = Guide::nothing(alloc);
+    read_guided(alloc, rep, reader, &guide, cursor)
+}
+
+/// Reads the sample that the cursor's region is, as `read_sample` does, with the same faults. By the type's guide (`Guide::of(alloc, reader)`)
+/// literals of enumerations and labels of unions are found in a number of steps that is logarithmic in how many there are.
+pub fn read_guided<C: Cursor>(
+    alloc: Global,
+    rep: Rep,
+    reader: &XType,
+    guide: &Guide,
+    cursor: &mut C,
+) -> Result<Outcome, DecodeFault>
+    requires valid { IsValid reader.now }
+    requires guide { IsGuide (type_shape reader.now) guide.now }
+    ensures whole { OnOk result ((C.state cursor.new).place ≡ (C.state cursor.old).region_end) }
+    ensures typed { IfOk result (λ x. ComesTyped (type_shape reader.now) (C.state cursor.old) (outcome_val x)) }
+    ensures light { IfOk result (λ x. ComesLight (type_shape reader.now) (C.state cursor.old) (C.state cursor.new) (outcome_val x)) }
+    ensures value { Decodes outcome_val (sample_outcome rep (type_shape reader.now)) (C.state cursor.old) (C.state cursor.new) result }
+{
     shape_keeps_rules();
     shape_laws::sample_typed();
     shape_laws::sample_nodes_bound();
     shape_laws::body_is_value();
     let sample = open_sample(cursor, rep, top_of(reader))?;
-    let outcome = decode_value(alloc, rep, reader, cursor)?;
+    let outcome = decode_guided(alloc, rep, reader, guide, cursor)?;
     close_sample(cursor, sample)?;
     Ok(outcome)
 }

@@ -9,4 +9,4 @@ mod places;
 pub use choices::{Choice, choose};
 pub use counts::{array_count, has_ended, read_count};
 pub use headings::{Header, Heading};
-pub use places::{find_case, find_member};
+pub use places::find_member;

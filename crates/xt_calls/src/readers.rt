@@ -3,16 +3,20 @@ ghost use Rattle.type_trees.specs.View.{tree, val};
 ghost use Rattle.type_trees.specs.Bridge.{type_shape};
 ghost use Rattle.projection_laws.specs.Premises.{IsValid};
 ghost use Rattle.settled_parts.specs.Settling.{outcome_val};
+ghost use Rattle.packed_reader.specs.View.{packed_val};
+ghost use Rattle.xcdr_model.specs.Samples as samples;
 ghost use Rattle.xcdr_model.specs.Samples.{read_sample};
 ghost use Rattle.json_values.specs.Read.{read_as};
 ghost use Rattle.json_values.specs.Steps.{FailsAs};
 ghost use Rattle.json_values.specs.Written.{json_text};
 ghost use Rattle.json_values.specs.declared.faults.ValueFault.TheVariants.{OutOfMemory as NoMemory};
 ghost use Rattle.dynamic_data.specs.numbers.Kinds as kinds;
+ghost use Rattle.std.proofs.Props.{props};
+ghost use Rattle.tool_samples.specs.Props.{guide_prop};
 ghost use Rattle.tool_samples.specs.lines.Lines as lines;
 ghost use Rattle.tool_runs.specs.output.Runs.{Comes};
 ghost use Rattle.xt_calls.specs.Calls as spec;
-ghost use Rattle.tool_samples.specs.Sampling.{PlansFor, Taken};
+ghost use Rattle.tool_samples.specs.Sampling.{IsPrepared, Taken};
 ghost use Rattle.xt_calls.specs.Opened.{front};
 
 use crate::answers::{
@@ -26,13 +30,13 @@ use dynamic_data::{
     with_numbers,
 };
 use json::Scratch;
-use packed_json::{Plan, read_taped, write_tree, write_value};
-use packed_reader::{may_be_plain, read_plain};
+use packed_json::{read_taped, write_tree, write_value};
+use packed_reader::{Packed, may_be_plain, read_plain};
 use settled_parts::Outcome;
 use std::alloc::Global;
 use tool_runs::output::Stop;
 use tool_samples::lines::malformed_text;
-use tool_samples::{plan_for, taken};
+use tool_samples::{Prepared, taken};
 use tool_verdicts::assignable;
 use type_trees::{Value, XType};
 use xcdr_model::Why;
@@ -47,11 +51,11 @@ use xt_wire::cursor::DecodeFault;
 pub struct Reader {
     pub(crate) rep: Rep,
     pub(crate) ty: XType,
-    plan: Option<Plan>,
+    prepared: Prepared,
     may_be_taped: bool,
     has_floats: bool,
     ghost valid: { IsValid ty },
-    ghost planned: { PlansFor (tree ty) plan },
+    ghost guided: { IsPrepared (tree ty) prepared } by { Prim.hlevel (props, guide_prop) },
     ghost settled: { has_floats ≡ kinds.has_floats (tree ty) },
 }
 
@@ -144,13 +148,13 @@ impl Reader {
             return Err(refuse_words(alloc));
         };
         let ty = assignable(alloc, &pair, types.declared.as_slice(), &types.pool)?;
-        let plan = plan_for(alloc, pair.rep, &ty);
+        let prepared = Prepared::of(alloc, pair.rep, &ty);
         let may_be_taped = may_be_plain(&ty);
         let has_floats = has_floats(&ty);
         Ok(Reader {
             rep: pair.rep,
             ty,
-            plan,
+            prepared,
             may_be_taped,
             has_floats,
         })
@@ -159,17 +163,27 @@ impl Reader {
     pub(crate) fn taken(&self, alloc: Global, sample: &[u8]) -> Result<Outcome, DecodeFault>
         ensures { Taken (read_sample self.now.rep (type_shape self.now.ty) sample.now) result }
     {
-        taken(alloc, self.rep, &self.ty, sample)
+        taken(alloc, self.rep, &self.ty, &self.prepared.guide, sample)
+    }
+
+    // The value of a plain sample. None says nothing.
+    fn plain<'s>(&self, alloc: Global, sample: &'s [u8]) -> Option<Packed<'s>>
+        ensures { IfSome result (λ value. read_sample self.now.rep (type_shape self.now.ty) sample.now ≡ Ok (samples.sample (packed_val value))) }
+    {
+        if !self.prepared.may_be_plain {
+            return None;
+        }
+        read_plain(alloc, self.rep, &self.ty, &self.prepared.guide, sample)
     }
 
     // A plain sample as JSON, by the plan of its type. None says nothing.
     fn read_plain(&self, alloc: Global, sample: &[u8]) -> Option<Answer>
         ensures { IfSome result (λ answer. answer ≡ spec.read_answer (tree self.now.ty) (read_sample self.now.rep (type_shape self.now.ty) sample.now)) }
     {
-        let Some(plan) = &self.plan else {
+        let Some(plan) = &self.prepared.plan else {
             return None;
         };
-        let value = read_plain(alloc, self.rep, &self.ty, sample)?;
+        let value = self.plain(alloc, sample)?;
         let mut text = Text::new(alloc);
         write_value(plan, &value, &mut text)?;
         Some(Answer { status: DONE, text })
@@ -179,7 +193,7 @@ impl Reader {
     fn planned_json(&self, alloc: Global, value: &Value) -> Option<Text>
         ensures { IfSome result (λ text. text ≡ json_text (tree self.now.ty) (val value.now)) }
     {
-        let Some(plan) = &self.plan else {
+        let Some(plan) = &self.prepared.plan else {
             return None;
         };
         let mut text = Text::new(alloc);
@@ -257,10 +271,7 @@ impl Reader {
     fn convert_plain(&self, alloc: Global, to: Rep, sample: &[u8]) -> Option<Answer>
         ensures { IfSome result (λ answer. answer ≡ spec.converted_answer to (tree self.now.ty) (read_sample self.now.rep (type_shape self.now.ty) sample.now)) }
     {
-        if self.plan.is_none() {
-            return None;
-        }
-        let value = read_plain(alloc, self.rep, &self.ty, sample)?;
+        let value = self.plain(alloc, sample)?;
         plain_answer(alloc, to, &self.ty, &value, sample.len())
     }
 

@@ -4,6 +4,7 @@ use Rattle.std.proofs.Crossing.{crosses}
 use Rattle.std.proofs.MapsCrossing as maps
 use Rattle.type_trees.proofs.types.XType.TheLaws.TheKnot as knot
 use Rattle.object_formats.proofs.objects.TypeIdentifier.TheLaws.TheKnot as identifier_knot
+use Rattle.settled_parts.proofs.guides.Guide.TheLaws.TheKnot as guide_knot
 use Rattle.packed_json.proofs.plan.Plan.TheLaws.TheKnot as plan_knot
 use Rattle.idl_types.proofs.uses.Used.TheLaws.TheKnot as used_knot
 use Rattle.xt_lists.specs.contracts.texts.Text as Text
@@ -29,7 +30,7 @@ use Rattle.xt_calls.specs.contracts.readers.Reader as Reader
 use Rattle.xt_calls.specs.contracts.types.Types as Types
 
 pub reader_send : IsSend Reader.the_row
-reader_send = search (knot.crosses, plan_knot.crosses, maps.crosses, crosses, sendable) depth 60 fits 20000
+reader_send = search (knot.crosses, plan_knot.crosses, guide_knot.crosses, maps.crosses, crosses, sendable) depth 60 fits 20000
 
 -- ---- a pool, part by part, since a search that goes down through all of them runs out of steps
 

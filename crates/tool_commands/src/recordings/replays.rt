@@ -9,17 +9,18 @@ ghost use Rattle.tool_runs.specs.output.Outputs.{Output, after_pieces};
 ghost use Rattle.tool_runs.specs.output.Runs.{Steps, StopsWriting};
 ghost use Rattle.type_trees.specs.samples.Tops.{is_top};
 ghost use Rattle.tool_types.specs.names.Meanings.{IsFound};
-ghost use Rattle.tool_samples.specs.Sampling.{PlansFor};
+ghost use Rattle.std.proofs.Props.{props};
+ghost use Rattle.tool_samples.specs.Props.{guide_prop};
+ghost use Rattle.tool_samples.specs.Sampling.{IsPrepared};
 ghost use Rattle.tool_samples.specs.lines.Lines.{sample_line};
 ghost use Rattle.tool_commands.specs.recordings.Replaying.{ReplaysRecord, replay_turn};
 
 use crate::recordings::lines::say_replayed;
 use crate::recordings::refusals::refuse_replay;
-use packed_json::Plan;
 use std::alloc::Global;
 use tool_runs::output::{Halt, Payloads, Stop, Style};
 use tool_runs::say_pieces;
-use tool_samples::{payload_line, plan_for};
+use tool_samples::{Prepared, payload_line};
 use tool_types::names::NamedType;
 use type_object::Pool;
 use xt_io::{Head, Item, Kind, Sink};
@@ -31,8 +32,8 @@ use xt_shapes::Rep;
 #[derive(Drop)]
 pub struct Replays {
     replayer: Replayer,
-    plan: Option<Plan>,
-    ghost planned: { PlansFor (reader_of replayer) plan },
+    prepared: Prepared,
+    ghost guided: { IsPrepared (reader_of replayer) prepared } by { Prim.hlevel (props, guide_prop) },
 }
 
 // A record with a copy of its payload.
@@ -55,10 +56,10 @@ impl Replays {
         ensures state { state_of result.replayer ≡ record { pool = pool; stream = None } }
     {
         let NamedType { ty, id } = reader;
-        let plan = plan_for(alloc, Rep::Xcdr2, &ty);
+        let prepared = Prepared::of(alloc, Rep::Xcdr2, &ty);
         Replays {
             replayer: Replayer::by_id(ty, id, pool),
-            plan,
+            prepared,
         }
     }
 
@@ -85,7 +86,7 @@ impl Replays {
         ensures stops { StopsWriting (K.faults sink.old) (K.faults sink.new) result }
         ensures same { K.name sink.new ≡ K.name sink.old }
     {
-        match payload_line(alloc, rep, self.replayer.reader(), &self.plan, payload) {
+        match payload_line(alloc, rep, self.replayer.reader(), &self.prepared, payload) {
             Ok(line) => say_pieces(sink, line.octets()),
             Err(_) => Err(Stop::Halted(Halt::OutOfMemory)),
         }

@@ -1,10 +1,12 @@
 ghost use Rattle.std.specs.Prelude.{◌≡◌};
 ghost use Rattle.type_trees.specs.View.{tree};
 ghost use Rattle.projection_laws.specs.Premises.{IsValid};
-ghost use Rattle.tool_samples.specs.Sampling.{PlansFor};
+ghost use Rattle.std.proofs.Props.{props};
+ghost use Rattle.tool_samples.specs.Props.{guide_prop};
+ghost use Rattle.tool_samples.specs.Sampling.{IsPrepared};
 
+use crate::prepared::Prepared;
 use key_instances::LastValues;
-use packed_json::Plan;
 use type_trees::{Value, XType};
 use xt_lists::Text;
 use xt_shapes::Rep;
@@ -22,9 +24,9 @@ pub enum Held {
 pub struct LastSamples {
     pub(crate) rep: Rep,
     pub(crate) ty: XType,
-    pub(crate) plan: Option<Plan>,
+    pub(crate) prepared: Prepared,
     pub(crate) cache: LastValues<Held>,
     ghost valid: { IsValid ty },
-    ghost planned: { PlansFor (tree ty) plan },
+    ghost guided: { IsPrepared (tree ty) prepared } by { Prim.hlevel (props, guide_prop) },
     ghost most: { cache.most ≡ 65536 },
 }

@@ -9,7 +9,7 @@ ghost use Rattle.tool_samples.specs.instances.Instancing.{instances_body};
 
 use crate::instances::held::LastSamples;
 use crate::instances::putting::put_sample;
-use crate::payloads::plan_for;
+use crate::prepared::Prepared;
 use key_instances::LastValues;
 use std::alloc::Global;
 use tool_runs::output::{Payloads, Stop, Style, is_sample};
@@ -28,12 +28,12 @@ impl LastSamples {
         ensures depth { IfOk result (λ kept. kept.cache.depth ≡ depth) }
         ensures none { IfOk result (λ kept. kept_in kept ≡ []) }
     {
-        let plan = plan_for(alloc, rep, &ty);
+        let prepared = Prepared::of(alloc, rep, &ty);
         let cache = LastValues::new(alloc, depth, 65_536)?;
         Ok(LastSamples {
             rep,
             ty,
-            plan,
+            prepared,
             cache,
         })
     }
@@ -76,12 +76,11 @@ impl Payloads for LastSamples {
         payload: &[u8],
         _sink: &mut K,
     ) -> Result<(), Stop> {
-        let is_planned = self.plan.is_some();
         put_sample(
             alloc,
             self.rep,
             &self.ty,
-            is_planned,
+            &self.prepared,
             payload,
             &mut self.cache,
         )

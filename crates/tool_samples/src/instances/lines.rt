@@ -52,10 +52,10 @@ impl LastSamples {
     fn plain_line(&self, alloc: Global, payload: &[u8]) -> Option<Text>
         ensures { IfSome result (λ text. text ≡ spec.value_line (tree self.now.ty) (value_read (read_sample self.now.rep (type_shape self.now.ty) payload.now))) }
     {
-        match &self.plan {
+        match &self.prepared.plan {
             None => None,
             Some(plan) => {
-                let value = read_plain(alloc, self.rep, &self.ty, payload)?;
+                let value = read_plain(alloc, self.rep, &self.ty, &self.prepared.guide, payload)?;
                 Lines.plain(alloc, &self.ty, plan, &value, payload.len())
             }
         }
@@ -65,7 +65,7 @@ impl LastSamples {
     fn planned_line(&self, alloc: Global, value: &Value) -> Option<Text>
         ensures { IfSome result (λ text. text ≡ spec.value_line (tree self.now.ty) (val value.now)) }
     {
-        match &self.plan {
+        match &self.prepared.plan {
             None => None,
             Some(plan) => tree_line(alloc, &self.ty, plan, value),
         }
@@ -78,7 +78,7 @@ impl LastSamples {
         if let Some(text) = self.plain_line(alloc, payload) {
             return Ok(text);
         }
-        match taken(alloc, self.rep, &self.ty, payload) {
+        match taken(alloc, self.rep, &self.ty, &self.prepared.guide, payload) {
             Ok(Outcome::Sample(value)) => self.tree_line(alloc, &value),
             _ => Err(OutOfMemory),
         }

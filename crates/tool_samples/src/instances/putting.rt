@@ -4,6 +4,7 @@ ghost use Rattle.xt_shapes.specs.Typing.{has_type};
 ghost use Rattle.xt_shapes.specs.Vals.{Val};
 ghost use Rattle.type_trees.specs.Bridge.{type_shape};
 ghost use Rattle.type_trees.specs.View.{tree, val};
+ghost use Rattle.settled_parts.specs.Guides.{IsGuide};
 ghost use Rattle.settled_parts.specs.Settling.{outcome_val};
 ghost use Rattle.projection_laws.specs.Premises.{IsValid};
 ghost use Rattle.xcdr_model.specs.KeyOctets as spec;
@@ -12,19 +13,21 @@ ghost use Rattle.tool_runs.specs.output.Runs.{Refuses};
 ghost use Rattle.tool_samples.specs.declared.instances.held.Held.{Held};
 ghost use Rattle.tool_samples.specs.instances.Holding.{HasKeyRead, held_val, shown_as};
 ghost use Rattle.tool_samples.specs.instances.Instancing.{full, outcome_turn, payload_turn, put_turn};
+ghost use Rattle.tool_samples.specs.Sampling.{IsPrepared};
 ghost use Rattle.tool_samples.specs.instances.Keeping.{HasKey, Keeps};
 
 use crate::instances::held::Held;
+use crate::prepared::Prepared;
 use key_instances::octets::{key_octets, packed_key_octets};
 use key_instances::{LastValues, PutFault};
 use packed_reader::read_plain;
-use settled_parts::Outcome;
+use settled_parts::{Guide, Outcome};
 use shape_laws::{key_octets_bound, sample_typed};
 use std::alloc::Global;
 use tool_runs::output::{Cause, Halt, Refused, Stop};
 use type_rules::{is_within_limits, shape_keeps_rules};
 use type_trees::{Value, XType};
-use xcdr_samples::read_sample;
+use xcdr_samples::read_guided;
 use xt_lists::Text;
 use xt_shapes::Rep;
 use xt_wire::cursor::{DecodeFault, SliceCursor};
@@ -119,10 +122,12 @@ fn put_general(
     alloc: Global,
     rep: Rep,
     ty: &XType,
+    guide: &Guide,
     payload: &[u8],
     cache: &mut LastValues<Held>,
 ) -> Result<(), Stop>
     requires valid { IsValid ty.now }
+    requires guide { IsGuide (type_shape ty.now) guide.now }
     requires size { length payload.now ≤ 1048576 }
     requires most { cache.old.most ≡ 65536 }
     ensures put { Keeps (payload_turn cache.old.depth rep (tree ty.now) (shown_as (held_val rep (tree ty.now)) cache.old) payload.now) (shown_as (held_val rep (tree ty.now)) cache.new) result }
@@ -134,7 +139,7 @@ fn put_general(
     sample_typed();
     key_octets_bound();
     let mut cursor = SliceCursor::new(payload);
-    match read_sample(alloc, rep, ty, &mut cursor) {
+    match read_guided(alloc, rep, ty, guide, &mut cursor) {
         Ok(outcome) => put_outcome(alloc, ty, outcome, cache),
         Err(DecodeFault::Malformed { .. }) => Ok(()),
         Err(DecodeFault::ReadFault | DecodeFault::OutOfMemory) => {
@@ -144,8 +149,9 @@ fn put_general(
 }
 
 // The key of a plain sample. None says nothing.
-fn plain_key(alloc: Global, rep: Rep, ty: &XType, payload: &[u8]) -> Option<Text>
+fn plain_key(alloc: Global, rep: Rep, ty: &XType, guide: &Guide, payload: &[u8]) -> Option<Text>
     requires valid { IsValid ty.now }
+    requires guide { IsGuide (type_shape ty.now) guide.now }
     requires size { length payload.now ≤ 1048576 }
     ensures { IfSome result (λ key. HasKeyRead rep (type_shape ty.now) payload.now key) }
 {
@@ -153,35 +159,35 @@ fn plain_key(alloc: Global, rep: Rep, ty: &XType, payload: &[u8]) -> Option<Text
     is_within_limits();
     sample_typed();
     key_octets_bound();
-    let value = read_plain(alloc, rep, ty, payload)?;
+    let value = read_plain(alloc, rep, ty, guide, payload)?;
     match packed_key_octets(alloc, ty, &value) {
         Ok(key) => Some(key),
         Err(_) => None,
     }
 }
 
-/// Puts the value that the reader's type makes of a sample under its key: of a plain sample a copy of the octets is kept, which is looked for
-/// where there is a plan of the type. A sample that is discarded, must be understood or is malformed is passed over. A key too many is refused.
+/// Puts the value that the reader's type makes of a sample under its key: of a plain sample a copy of the octets is kept. A sample that is discarded, must be understood or is malformed is passed over. A key too many is refused.
 /// After a stop the cache is unchanged.
 pub fn put_sample(
     alloc: Global,
     rep: Rep,
     ty: &XType,
-    is_planned: bool,
+    prepared: &Prepared,
     payload: &[u8],
     cache: &mut LastValues<Held>,
 ) -> Result<(), Stop>
     requires valid { IsValid ty.now }
+    requires prepared { IsPrepared (tree ty.now) prepared.now }
     requires size { length payload.now ≤ 1048576 }
     requires most { cache.old.most ≡ 65536 }
     ensures put { Keeps (payload_turn cache.old.depth rep (tree ty.now) (shown_as (held_val rep (tree ty.now)) cache.old) payload.now) (shown_as (held_val rep (tree ty.now)) cache.new) result }
     ensures depth { cache.new.depth ≡ cache.old.depth }
     ensures most { cache.new.most ≡ cache.old.most }
 {
-    if is_planned {
-        if let Some(key) = plain_key(alloc, rep, ty, payload) {
+    if prepared.may_be_plain {
+        if let Some(key) = plain_key(alloc, rep, ty, &prepared.guide, payload) {
             return put_octets(alloc, key, payload, cache);
         }
     }
-    put_general(alloc, rep, ty, payload, cache)
+    put_general(alloc, rep, ty, &prepared.guide, payload, cache)
 }

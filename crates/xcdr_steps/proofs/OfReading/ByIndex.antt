@@ -1,42 +1,22 @@
--- Members and cases by their index.
+-- Members by their index.
 use Rattle.std.proofs.Common.{◌≡◌, refl, sym, ap, ◌∙◌, ℕ, zero, suc, ◌+◌, ◌<◌, ◌≤◌, ◌≢◌, Bool, true, false, not, ◌||◌, ◌==◌, List, [], ◌∷◌, length, drop, get_or, drop_of_length-le, Option, Some, None, arith, eq-eqb, inl, inr}
 use Rattle.std.specs.Option.{option_map}
 use Rattle.std.proofs.lemmas.Bool.{cases_Bool, eqb-true, ne_eqb, and_parts}
 use Rattle.std.proofs.lemmas.List.{at_drop_more}
 use Rattle.xt_shapes.specs.Select.{has_member}
-use Rattle.xt_shapes.specs.Shape.{no_members, member, no_cases, one_case}
+use Rattle.xt_shapes.specs.Shape.{no_members, member}
 use Rattle.type_trees.specs.declared.types.Member as declared
-use Rattle.type_trees.specs.declared.types.Case as declared_case
-use Rattle.type_trees.specs.Bridge.{type_shape, members_shape, member_head, cases_shape, case_head}
-use Rattle.type_trees.proofs.Views.{member_tree_is, case_tree_is}
+use Rattle.type_trees.specs.Bridge.{type_shape, members_shape, member_head}
+use Rattle.type_trees.proofs.Views.{member_tree_is}
 use Rattle.xcdr_model.specs.Premises.{distinct_members}
+use Rattle.settled_parts.proofs.CasesByIndex.{shifted, shifted_one, shifted_none}
 use Rattle.xcdr_steps.specs.reading.Indices.{index_of}
-use Rattle.xcdr_steps.specs.reading.Cases.{case_index}
 
 pub next_shape : (ms : List declared.Member) (i : ℕ) (d : declared.Member) → i < length ms → members_shape (drop i ms) ≡ member (member_head (get_or ms i d)) (type_shape (get_or ms i d).ty) (members_shape (drop (i + 1) ms))
 next_shape ms i d within = at_drop_more (λ xs. members_shape xs) ms i d within ∙ rw (member_tree_is (get_or ms i d)) refl
 
 pub none_left : (ms : List declared.Member) (i : ℕ) → length ms ≤ i → members_shape (drop i ms) ≡ no_members
 none_left ms i le = ap (λ (xs : List declared.Member). members_shape xs) (drop_of_length-le ms le)
-
-pub next_case : (cs : List declared_case.Case) (i : ℕ) (d : declared_case.Case) → i < length cs → cases_shape (drop i cs) ≡ one_case (case_head (get_or cs i d)) (type_shape (get_or cs i d).ty) (cases_shape (drop (i + 1) cs))
-next_case cs i d within = at_drop_more (λ xs. cases_shape xs) cs i d within ∙ rw (case_tree_is (get_or cs i d)) refl
-
-pub no_case_left : (cs : List declared_case.Case) (i : ℕ) → length cs ≤ i → cases_shape (drop i cs) ≡ no_cases
-no_case_left cs i le = ap (λ (xs : List declared_case.Case). cases_shape xs) (drop_of_length-le cs le)
-
--- an index counted from further on
-abbrev pub shifted : ℕ → Option ℕ → Option ℕ
-shifted n None = None
-shifted n (Some i) = Some (n + i)
-
-shifted_one : (n : ℕ) (o : Option ℕ) → shifted n (option_map (λ i. suc i) o) ≡ shifted (n + 1) o
-shifted_one n None = refl
-shifted_one n (Some i) = ap (λ (k : ℕ). Some k) (omega arith)
-
-pub shifted_none : (o : Option ℕ) → o ≡ shifted 0 o
-shifted_none None = refl
-shifted_none (Some i) = ap (λ (k : ℕ). Some k) (omega arith)
 
 pub here : (ms : List declared.Member) (i id : ℕ) (d : declared.Member) → i < length ms → (get_or ms i d).id ≡ id → shifted i (index_of (members_shape (drop i ms)) id) ≡ Some i
 here ms i id d within is = rw (next_shape ms i d within, eq-eqb _ _ is) (ap (λ (k : ℕ). Some k) (omega arith))
@@ -46,15 +26,6 @@ further ms i id d within other = rw (next_shape ms i d within, ne_eqb _ _ other)
 
 pub nowhere : (ms : List declared.Member) (i id : ℕ) → length ms ≤ i → shifted i (index_of (members_shape (drop i ms)) id) ≡ None
 nowhere ms i id le = rw (none_left ms i le) refl
-
-pub case_here : (cs : List declared_case.Case) (i id : ℕ) (d : declared_case.Case) → i < length cs → (get_or cs i d).id ≡ id → shifted i (case_index (cases_shape (drop i cs)) id) ≡ Some i
-case_here cs i id d within is = rw (next_case cs i d within, eq-eqb _ _ is) (ap (λ (k : ℕ). Some k) (omega arith))
-
-pub case_further : (cs : List declared_case.Case) (i id : ℕ) (d : declared_case.Case) → i < length cs → (get_or cs i d).id ≢ id → shifted i (case_index (cases_shape (drop i cs)) id) ≡ shifted (i + 1) (case_index (cases_shape (drop (i + 1) cs)) id)
-case_further cs i id d within other = rw (next_case cs i d within, ne_eqb _ _ other) (shifted_one i (case_index (cases_shape (drop (i + 1) cs)) id))
-
-pub case_nowhere : (cs : List declared_case.Case) (i id : ℕ) → length cs ≤ i → shifted i (case_index (cases_shape (drop i cs)) id) ≡ None
-case_nowhere cs i id le = rw (no_case_left cs i le) refl
 
 not_true : (b : Bool) → not b ≡ true → b ≡ false
 not_true true e = absurd cc

@@ -1,15 +1,10 @@
 -- The cases of a union by index, and which of them is read (DDS-XTypes 1.3, 7.2.2.4.4).
-use Rattle.std.specs.Prelude.{ℕ, ◌<◌, ℤ, suc, Bool, cond, not, ◌&&◌, ◌==◌, Option, Some, None}
-use Rattle.std.specs.Option.{option_map}
+use Rattle.std.specs.Prelude.{ℕ, ◌<◌, ℤ, Bool, cond, not, ◌&&◌, Option, Some, None}
 use Rattle.xt_shapes.specs.Select.{select}
-use Rattle.xt_shapes.specs.Shape.{Cases, no_cases, one_case}
+use Rattle.xt_shapes.specs.Shape.{Cases}
+use Rattle.settled_parts.specs.Guides.{case_index}
 use Rattle.xcdr_steps.specs.declared.reading.choices.Choice as declared
 use Rattle.xcdr_steps.specs.declared.reading.choices.Choice.TheVariants.{NoCase, OneSided, Missing, Case}
-
--- the index of the first case with that id
-abbrev pub case_index : Cases → ℕ → Option ℕ
-case_index no_cases id = None
-case_index (one_case h t cs) id = cond (h.id == id) (Some 0) (option_map (λ i. suc i) (case_index cs id))
 
 abbrev pub indexed : Option ℕ → declared.Choice
 indexed None = Missing

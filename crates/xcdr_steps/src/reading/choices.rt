@@ -1,10 +1,11 @@
 // Which case of a union is read.
 ghost use Rattle.std.specs.Prelude.{◌≡◌, length};
 ghost use Rattle.type_trees.specs.Bridge.{cases_shape};
+ghost use Rattle.settled_parts.specs.Guides.{TellsCases};
 ghost use Rattle.xcdr_steps.specs.reading.Cases.{choice, choice_with, IsInside};
 
-use crate::reading::places::find_case;
-use type_trees::{Case, select};
+use settled_parts::Guide;
+use type_trees::Case;
 
 /// What stands for a union's case.
 #[derive(Clone, Copy, Debug)]
@@ -19,27 +20,29 @@ pub enum Choice {
     Case(usize),
 }
 
-fn case_with(cases: &[Case], id: u32) -> Choice
+fn case_with(guide: &Guide, cases: &[Case], id: u32) -> Choice
+    requires { TellsCases (cases_shape cases.now) guide.now }
     ensures choice { result ≡ choice_with (cases_shape cases.now) id }
     ensures within { IsInside (length cases.now) result }
 {
-    match find_case(cases, id) {
+    match guide.position(cases, id) {
         Some(at) => Choice::Case(at),
         None => Choice::Missing,
     }
 }
 
-/// The case that the number selects, where a union is `filled` by it and the region has ended or not.
-pub fn choose(cases: &[Case], number: i128, filled: bool, ended: bool) -> Choice
+/// The case that the number selects, where a union is `filled` by it and the region has ended or not. The union's guide tells of its cases.
+pub fn choose(guide: &Guide, cases: &[Case], number: i128, filled: bool, ended: bool) -> Choice
+    requires { TellsCases (cases_shape cases.now) guide.now }
     ensures choice { result ≡ choice filled ended (cases_shape cases.now) number }
     ensures within { IsInside (length cases.now) result }
 {
-    match select(cases, number) {
+    match guide.select(cases, number) {
         Some(id) => {
             if filled && ended {
                 return Choice::OneSided;
             }
-            case_with(cases, id)
+            case_with(guide, cases, id)
         }
         None => {
             if filled && !ended {

@@ -1,11 +1,10 @@
-// Members and cases by id.
-ghost use Rattle.std.specs.Prelude.{◌≡◌, ◌<◌, length, true, IfSome};
-ghost use Rattle.type_trees.specs.Bridge.{members_shape, cases_shape};
+// Members by id.
+ghost use Rattle.std.specs.Prelude.{◌≡◌, true};
+ghost use Rattle.type_trees.specs.Bridge.{members_shape};
 ghost use Rattle.xcdr_model.specs.Premises.{distinct_members};
 ghost use Rattle.xcdr_steps.specs.reading.Indices.{index_of};
-ghost use Rattle.xcdr_steps.specs.reading.Cases.{case_index};
 
-use type_trees::{Case, Member};
+use type_trees::Member;
 
 #[tactic(auto, using(crate::proofs::OfReading::ByIndex::index_rules))]
 fn search(members: &[Member], id: u32) -> Option<usize>
@@ -28,18 +27,4 @@ pub fn find_member(members: &[Member], next: usize, id: u32) -> Option<usize>
         return Some(next);
     }
     search(members, id)
-}
-
-/// The index of the first case with that id.
-#[tactic(auto, using(crate::proofs::OfReading::ByIndex::index_rules))]
-pub fn find_case(cases: &[Case], id: u32) -> Option<usize>
-    ensures index { result ≡ case_index (cases_shape cases.now) id }
-    ensures within { IfSome result (λ at. at < length cases.now) }
-{
-    for (at, case) in cases.iter().enumerate() {
-        if case.id == id {
-            return Some(at);
-        }
-    }
-    None
 }

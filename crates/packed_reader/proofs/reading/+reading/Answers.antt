@@ -11,7 +11,7 @@ use Rattle.packed_reader.specs.Spots.{spot_of}
 use Rattle.packed_reader.proofs.Steps.{empty_is}
 use Rattle.packed_reader.proofs.Taken.{none_taken}
 use Rattle.packed_reader.proofs.ListSteps.{items_first, item_next, items_end, is_prim, no_prim, sequence_is, array_is, counted_is, sequence_in, sequence_of, array_in, array_of}
-use Rattle.packed_reader.proofs.MemberSteps.{sound_here, sound_more, slot_here, slot_present, slot_absent, members_first, one_more_taken, one_more_left, members_end}
+use Rattle.packed_reader.proofs.MemberSteps.{sound_here, sound_more, guide_here, slot_here, slot_present, slot_absent, members_first, one_more_taken, one_more_left, members_end}
 use Rattle.packed_reader.proofs.PieceSteps.{pieces_first, piece_taken, piece_left, pieces_end}
 use Rattle.packed_reader.proofs.KindSteps.{struct_is, final_is, appendable_in, appendable_of, mutable_of}
 use Rattle.packed_reader.proofs.reading.+reading.Goals as goal
@@ -119,8 +119,8 @@ read_slot-returns t c =
 
 -- ---- the members in declared order
 
-pub read_members-loop-member-init : goal.read_members-loop-member-init
-read_members-loop-member-init t c =
+pub read_members-loop-at-init : goal.read_members-loop-at-init
+read_members-loop-at-init t c =
     let none = c.reserve.ensures ∙ c.new-slots.ensures in
     rw none (record {
       taken = none_taken (members_shape c.args.members.now) c.requires.apart;
@@ -130,27 +130,28 @@ read_members-loop-member-init t c =
 
 pub read_members-read_slot-requires : goal.read_members-read_slot-requires
 read_members-read_slot-requires t c =
-    let fine = sound_here c.args.members.now c.loop-member.member-index c.member-item.result c.loop-member.invariant.sound c.loop-member-test.true c.member-item.is in
-    let smaller = rw (← c.member-item.is) at (at_most member_laws.the_size c.args.members.now c.loop-member.member-index c.member-item.result c.loop-member-test.true) in
+    let fine = sound_here c.args.members.now c.loop-at.at c.index-members-at.result c.loop-at.invariant.sound c.loop-at-test.true c.index-members-at.is in
+    let guided = guide_here c.args.members.now c.args.guide.now c.part.result.now c.loop-at.at c.index-members-at.result c.requires.guide c.loop-at-test.true c.index-members-at.is c.part.ensures in
+    let smaller = rw (← c.index-members-at.is) at (at_most member_laws.the_size c.args.members.now c.loop-at.at c.index-members-at.result c.loop-at-test.true) in
     search rules
 
-pub read_members-loop-member-preserved : goal.read_members-loop-member-preserved
-read_members-loop-member-preserved t c =
+pub read_members-loop-at-preserved : goal.read_members-loop-at-preserved
+read_members-loop-at-preserved t c =
     let ms = c.args.members.now in
-    let i = c.loop-member.member-index in
-    let m = c.member-item.result in
-    let ss = map packed_slot c.loop-member.slots in
+    let i = c.loop-at.at in
+    let m = c.index-members-at.result in
+    let ss = map packed_slot c.loop-at.slots in
     let b = packed_slot c.in_ok-slot.slot in
-    let more : map packed_slot c.push.new.self ≡ ss ++ b ∷ [] = ap (λ xs. map packed_slot xs) c.in-Ok-push.ensures.ok ∙ map-append packed_slot c.loop-member.slots (c.in_ok-slot.slot ∷ []) in
+    let more : map packed_slot c.push.new.self ≡ ss ++ b ∷ [] = ap (λ xs. map packed_slot xs) c.in-Ok-push.ensures.ok ∙ map-append packed_slot c.loop-at.slots (c.in_ok-slot.slot ∷ []) in
     rw more (record {
-      taken = one_more_taken ms i m ss b c.args.rep c.args.order (spot_of c.loop-member.left) (spot_of c.in_ok-slot.behind) c.loop-member-test.true c.member-item.is c.loop-member.invariant.taken c.in_ok-slot.ensures;
-      left = sym (one_more_left ms i m ss b c.args.rep c.args.order c.args.cut (spot_of c.loop-member.left) (spot_of c.in_ok-slot.behind) c.loop-member-test.true c.member-item.is c.loop-member.invariant.taken (sym c.is_ended.ensures ∙ c.if-is_ended.false) c.in_ok-slot.ensures) ∙ c.loop-member.invariant.left;
-      sound = sound_more ms i m c.loop-member.invariant.sound c.loop-member-test.true c.member-item.is;
+      taken = one_more_taken ms i m ss b c.args.rep c.args.order (spot_of c.loop-at.left) (spot_of c.in_ok-slot.behind) c.loop-at-test.true c.index-members-at.is c.loop-at.invariant.taken c.in_ok-slot.ensures;
+      left = sym (one_more_left ms i m ss b c.args.rep c.args.order c.args.cut (spot_of c.loop-at.left) (spot_of c.in_ok-slot.behind) c.loop-at-test.true c.index-members-at.is c.loop-at.invariant.taken (sym c.is_ended.ensures ∙ c.if-is_ended.false) c.in_ok-slot.ensures) ∙ c.loop-at.invariant.left;
+      sound = sound_more ms i m c.loop-at.invariant.sound c.loop-at-test.true c.index-members-at.is;
     })
 
 pub read_members-returns : goal.read_members-returns
 read_members-returns t c =
-    rw (packed_struct c.loop-member.slots) (sym c.loop-member.invariant.left ∙ members_end c.args.members.now c.loop-member.member-index (map packed_slot c.loop-member.slots) c.args.rep c.args.order c.args.cut (spot_of c.loop-member.left) c.loop-member-test.false c.requires.apart c.loop-member.invariant.taken)
+    rw (packed_struct c.loop-at.slots) (sym c.loop-at.invariant.left ∙ members_end c.args.members.now c.loop-at.at (map packed_slot c.loop-at.slots) c.args.rep c.args.order c.args.cut (spot_of c.loop-at.left) c.loop-at-test.false c.requires.apart c.loop-at.invariant.taken)
 
 -- ---- the members of a MUTABLE structure
 
@@ -168,8 +169,8 @@ read_piece-returns t c =
       filled = empty_is v.end.rest.now (sym c.is_empty.ensures ∙ c.if-not-is_empty.false);
     })
 
-pub read_pieces-loop-member-init : goal.read_pieces-loop-member-init
-read_pieces-loop-member-init t c =
+pub read_pieces-loop-at-init : goal.read_pieces-loop-at-init
+read_pieces-loop-at-init t c =
     let none = c.reserve.ensures ∙ c.new-slots.ensures in
     rw none (record {
       taken = none_taken (members_shape c.args.members.now) c.requires.apart;
@@ -179,28 +180,29 @@ read_pieces-loop-member-init t c =
 
 pub read_pieces-read_piece-requires : goal.read_pieces-read_piece-requires
 read_pieces-read_piece-requires t c =
-    let fine = sound_here c.args.members.now c.loop-member.member-index c.member-item.result c.loop-member.invariant.sound c.loop-member-test.true c.member-item.is in
-    let smaller = rw (← c.member-item.is) at (at_most member_laws.the_size c.args.members.now c.loop-member.member-index c.member-item.result c.loop-member-test.true) in
+    let fine = sound_here c.args.members.now c.loop-at.at c.index-members-at.result c.loop-at.invariant.sound c.loop-at-test.true c.index-members-at.is in
+    let guided = guide_here c.args.members.now c.args.guide.now c.part.result.now c.loop-at.at c.index-members-at.result c.requires.guide c.loop-at-test.true c.index-members-at.is c.part.ensures in
+    let smaller = rw (← c.index-members-at.is) at (at_most member_laws.the_size c.args.members.now c.loop-at.at c.index-members-at.result c.loop-at-test.true) in
     search rules
 
-pub read_pieces-loop-member-preserved : goal.read_pieces-loop-member-preserved
-read_pieces-loop-member-preserved t c =
+pub read_pieces-loop-at-preserved : goal.read_pieces-loop-at-preserved
+read_pieces-loop-at-preserved t c =
     let ms = c.args.members.now in
-    let i = c.loop-member.member-index in
-    let m = c.member-item.result in
-    let ss = map packed_slot c.loop-member.slots in
+    let i = c.loop-at.at in
+    let m = c.index-members-at.result in
+    let ss = map packed_slot c.loop-at.slots in
     let b = packed_slot c.in_ok-slot.slot in
-    let more : map packed_slot c.push.new.self ≡ ss ++ b ∷ [] = ap (λ xs. map packed_slot xs) c.in-Ok-push.ensures.ok ∙ map-append packed_slot c.loop-member.slots (c.in_ok-slot.slot ∷ []) in
+    let more : map packed_slot c.push.new.self ≡ ss ++ b ∷ [] = ap (λ xs. map packed_slot xs) c.in-Ok-push.ensures.ok ∙ map-append packed_slot c.loop-at.slots (c.in_ok-slot.slot ∷ []) in
     rw more (record {
-      taken = piece_taken ms i m ss b c.args.order (spot_of c.loop-member.left) (spot_of c.in_ok-slot.behind) c.loop-member-test.true c.member-item.is c.loop-member.invariant.taken c.in_ok-slot.ensures;
-      left = piece_left ms i m ss b c.args.order _ (spot_of c.loop-member.left) (spot_of c.in_ok-slot.behind) c.loop-member-test.true c.member-item.is c.loop-member.invariant.taken c.loop-member.invariant.left c.in_ok-slot.ensures;
-      sound = sound_more ms i m c.loop-member.invariant.sound c.loop-member-test.true c.member-item.is;
+      taken = piece_taken ms i m ss b c.args.order (spot_of c.loop-at.left) (spot_of c.in_ok-slot.behind) c.loop-at-test.true c.index-members-at.is c.loop-at.invariant.taken c.in_ok-slot.ensures;
+      left = piece_left ms i m ss b c.args.order _ (spot_of c.loop-at.left) (spot_of c.in_ok-slot.behind) c.loop-at-test.true c.index-members-at.is c.loop-at.invariant.taken c.loop-at.invariant.left c.in_ok-slot.ensures;
+      sound = sound_more ms i m c.loop-at.invariant.sound c.loop-at-test.true c.index-members-at.is;
     })
 
 pub read_pieces-returns : goal.read_pieces-returns
 read_pieces-returns t c =
-    let left = c.loop-member.left in
-    rw (packed_struct c.loop-member.slots) (pieces_end c.args.members.now c.loop-member.member-index (map packed_slot c.loop-member.slots) c.args.order (spot_of c.args.ahead) (spot_of left) c.loop-member-test.false c.requires.apart c.loop-member.invariant.taken c.loop-member.invariant.left (empty_is left.rest.now (sym c.is_empty.ensures ∙ c.if-not-is_empty.false)))
+    let left = c.loop-at.left in
+    rw (packed_struct c.loop-at.slots) (pieces_end c.args.members.now c.loop-at.at (map packed_slot c.loop-at.slots) c.args.order (spot_of c.args.ahead) (spot_of left) c.loop-at-test.false c.requires.apart c.loop-at.invariant.taken c.loop-at.invariant.left (empty_is left.rest.now (sym c.is_empty.ensures ∙ c.if-not-is_empty.false)))
 
 -- ---- structures by their extensibility
 

@@ -21,10 +21,10 @@ invariant-read_items-loop-turn l =
       left : items_left l.rep l.order t (l.count - l._turn) (map packed_val l.values) (spot_of l.left) ≡ each_at l.count (λ s. read_in l.rep l.order t s) (spot_of l.fn.ahead);
     }
 
-abbrev pub invariant-read_members-loop-member : goal.invariant-read_members-loop-member
-invariant-read_members-loop-member l =
+abbrev pub invariant-read_members-loop-at : goal.invariant-read_members-loop-at
+invariant-read_members-loop-at l =
     let all = members_shape l.members in
-    let rest = members_shape (drop l.member-index l.members) in
+    let rest = members_shape (drop l.at l.members) in
     let ss = map packed_slot l.slots in
     record {
       taken : Taken all rest ss;
@@ -32,10 +32,10 @@ invariant-read_members-loop-member l =
       sound : sound_members rest ≡ true;
     }
 
-abbrev pub invariant-read_pieces-loop-member : goal.invariant-read_pieces-loop-member
-invariant-read_pieces-loop-member l =
+abbrev pub invariant-read_pieces-loop-at : goal.invariant-read_pieces-loop-at
+invariant-read_pieces-loop-at l =
     let all = members_shape l.members in
-    let rest = members_shape (drop l.member-index l.members) in
+    let rest = members_shape (drop l.at l.members) in
     let ss = map packed_slot l.slots in
     record {
       taken : Taken all rest ss;

@@ -15,8 +15,8 @@ use Rattle.tool_samples.proofs.sampling.streamed_piece.Goals as goal
 pub returns-in-Err-clause-takes : goal.returns-in-Err-clause-takes
 returns-in-Err-clause-takes g c =
     let a = stream_state c.new-cursor.result in
-    let b = stream_state c.read_sample-read.new.cursor in
-    let along = along_of a b c.read_sample-read.result c.read_sample-read.ensures.value.within in
+    let b = stream_state c.read_guided-read.new.cursor in
+    let along = along_of a b c.read_guided-read.result c.read_guided-read.ensures.value.within in
     let name = along.name ∙ ap (λ (s : Standing). s.name) c.new-cursor.ensures in
     let whole = along.whole ∙ ap (λ (s : Standing). s.whole) c.new-cursor.ensures in
     let res = c.end-reader.ensures c.args.reader (sym name) in
@@ -26,14 +26,14 @@ returns-in-Err-clause-takes g c =
 pub returns-in-Ok-clause-takes : goal.returns-in-Ok-clause-takes
 returns-in-Ok-clause-takes g c =
     let a = stream_state c.new-cursor.result in
-    let b = stream_state c.read_sample-read.new.cursor in
+    let b = stream_state c.read_guided-read.new.cursor in
     let t = tree c.args.ty.now in
-    let along = along_of a b c.read_sample-read.result c.read_sample-read.ensures.value.within in
+    let along = along_of a b c.read_guided-read.result c.read_guided-read.ensures.value.within in
     let name = along.name ∙ ap (λ (s : Standing). s.name) c.new-cursor.ensures in
     let whole = along.whole ∙ ap (λ (s : Standing). s.whole) c.new-cursor.ensures in
     let res = c.end-reader.ensures c.args.reader (sym name) in
     let piece : Result Outcome Fault → List ℕ = g.F.Shows.piece c.args.form.now t in
     let P : List ℕ → List ℕ → Type 0 = λ text octets. text ≡ piece (read_sample c.args.rep (type_shape c.args.ty.now) octets) in
-    piece_takes outcome_val piece c.args.head P (both (with_payload c.args.head) (inside c.args.reader) c.args.reader.ahead) c.pass_payload.new.self.ahead c.read_sample-read.result c.piece_of.result c.piece_of.ensures
+    piece_takes outcome_val piece c.args.head P (both (with_payload c.args.head) (inside c.args.reader) c.args.reader.ahead) c.pass_payload.new.self.ahead c.read_guided-read.result c.piece_of.result c.piece_of.ensures
     (λ text says. is_whole c.args.head (P text) c.args.reader c.end-reader.result b c.pass_payload.new.self.ahead res whole c.in-Ok.ensures.answers.unmet c.in-Ok.ensures.whole c.in-Ok.ensures.ahead
-    (λ octets is len. piece_said outcome_val (read_sample c.args.rep (type_shape c.args.ty.now)) piece c.args.head.length c.args.reader a b c.read_sample-read.result text octets c.new-cursor.ensures is len c.read_sample-read.ensures.value.told says))
+    (λ octets is len. piece_said outcome_val (read_sample c.args.rep (type_shape c.args.ty.now)) piece c.args.head.length c.args.reader a b c.read_guided-read.result text octets c.new-cursor.ensures is len c.read_guided-read.ensures.value.told says))

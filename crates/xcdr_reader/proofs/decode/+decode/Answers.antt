@@ -47,7 +47,8 @@ use Rattle.xcdr_reader.specs.Members.{Pieces, piece_of, has_come, next_piece, no
 use Rattle.xcdr_reader.specs.declared.known.Known.{Known}
 use Rattle.xcdr_reader.specs.Parts.{items_read, slot_more, entry_at, case_in, body_read, whole_read}
 use Rattle.xcdr_reader.proofs.CaseSteps.{chosen, of_item, union_made, union_behind, union_begin}
-use Rattle.xcdr_reader.proofs.DecodeSteps.{part_next, part_none, value_at, items_behind, items_begin, items_counted, items_law, item_then, entries_behind, entries_begin, entries_counted, entry_then, value_then, entry_next, members_from, members_none, members_begin, sound_more, more_next, more_behind, more_begin, more_absent, more_made, more_here, more_content}
+use Rattle.xcdr_reader.proofs.DecodeSteps.{part_next, part_none, value_at, items_behind, items_begin, items_counted, items_law, item_then, entries_behind, entries_begin, entries_counted, entry_then, value_then, entry_next, members_from, members_none, members_begin, more_next, more_behind, more_begin, more_absent, more_made, more_here, more_content}
+use Rattle.xcdr_reader.proofs.GuideParts.{member_guided, case_guided}
 use Rattle.xcdr_reader.proofs.InBlocks.{prim_is, items_given}
 use Rattle.xcdr_reader.proofs.Indexed.{sound_case, sound_item}
 use Rattle.xcdr_reader.proofs.InOrder.{slot_part}
@@ -62,12 +63,12 @@ use Rattle.xcdr_reader.proofs.decode.+decode.Goals as goal
 pub read_part-returns-in_err-frame : goal.read_part-returns-in_err-frame
 read_part-returns-in_err-frame g t c =
     let p = err_from_is_err_and c.from_residual.result c.from_residual.ensures.1 in
-    rw (p.1, p.2) (unopened c.args.mode (type_shape c.args.ty.now) c.framing.result (g.C.Cursor.state c.args.cursor.now) (g.C.Cursor.state c.open_frame.new.cursor) _ c.requires c.framing.ensures c.in_err-frame.ensures.fault)
+    rw (p.1, p.2) (unopened c.args.mode (type_shape c.args.ty.now) c.framing.result (g.C.Cursor.state c.args.cursor.now) (g.C.Cursor.state c.open_frame.new.cursor) _ c.requires.sound c.framing.ensures c.in_err-frame.ensures.fault)
 
 pub read_part-returns-in_err-part : goal.read_part-returns-in_err-part
 read_part-returns-in_err-part g t c =
     let p = err_from_is_err_and c.from_residual-in_err-part.result c.from_residual-in_err-part.ensures.1 in
-    rw (p.1, p.2) (inside_fails c.args.mode (type_shape c.args.ty.now) c.in_ok-frame.frame.framing c.in_ok-frame.frame.outer (g.C.Cursor.state c.args.cursor.now) (g.C.Cursor.state c.open_frame.new.cursor) (g.C.Cursor.state c.read_inside.new.cursor) _ c.requires (c.in_ok-frame.ensures.framing ∙ c.framing.ensures) c.in_ok-frame.ensures.opened c.in_err-part.ensures)
+    rw (p.1, p.2) (inside_fails c.args.mode (type_shape c.args.ty.now) c.in_ok-frame.frame.framing c.in_ok-frame.frame.outer (g.C.Cursor.state c.args.cursor.now) (g.C.Cursor.state c.open_frame.new.cursor) (g.C.Cursor.state c.read_inside.new.cursor) _ c.requires.sound (c.in_ok-frame.ensures.framing ∙ c.framing.ensures) c.in_ok-frame.ensures.opened c.in_err-part.ensures)
 
 pub read_part-close_frame-requires : goal.read_part-close_frame-requires
 read_part-close_frame-requires g t c = may_close c.in_ok-frame.frame.framing (g.C.Cursor.state c.args.cursor.now) (g.C.Cursor.state c.open_frame.new.cursor) (g.C.Cursor.state c.read_inside.new.cursor) c.in_ok-frame.frame.outer c.in_ok-frame.ensures.opened c.in_ok-part.ensures.within
@@ -75,10 +76,10 @@ read_part-close_frame-requires g t c = may_close c.in_ok-frame.frame.framing (g.
 pub read_part-returns-in_err-close_frame : goal.read_part-returns-in_err-close_frame
 read_part-returns-in_err-close_frame g t c =
     let p = err_from_is_err_and c.from_residual-in_err-close_frame.result c.from_residual-in_err-close_frame.ensures.1 in
-    rw (p.1, p.2) (not_closed c.args.mode (type_shape c.args.ty.now) c.in_ok-frame.frame.framing c.in_ok-frame.frame.outer (g.C.Cursor.state c.args.cursor.now) (g.C.Cursor.state c.open_frame.new.cursor) (g.C.Cursor.state c.read_inside.new.cursor) (g.C.Cursor.state c.close_frame.new.cursor) c.in_ok-part.part _ c.requires (c.in_ok-frame.ensures.framing ∙ c.framing.ensures) (g.met.C.Cursor.stands c.read_inside.new.cursor) c.in_ok-frame.ensures.opened c.in_ok-part.ensures c.in_err-close_frame.ensures)
+    rw (p.1, p.2) (not_closed c.args.mode (type_shape c.args.ty.now) c.in_ok-frame.frame.framing c.in_ok-frame.frame.outer (g.C.Cursor.state c.args.cursor.now) (g.C.Cursor.state c.open_frame.new.cursor) (g.C.Cursor.state c.read_inside.new.cursor) (g.C.Cursor.state c.close_frame.new.cursor) c.in_ok-part.part _ c.requires.sound (c.in_ok-frame.ensures.framing ∙ c.framing.ensures) (g.met.C.Cursor.stands c.read_inside.new.cursor) c.in_ok-frame.ensures.opened c.in_ok-part.ensures c.in_err-close_frame.ensures)
 
 pub read_part-returns : goal.read_part-returns
-read_part-returns g t c = closed c.args.mode (type_shape c.args.ty.now) c.in_ok-frame.frame.framing c.in_ok-frame.frame.outer (g.C.Cursor.state c.args.cursor.now) (g.C.Cursor.state c.open_frame.new.cursor) (g.C.Cursor.state c.read_inside.new.cursor) (g.C.Cursor.state c.close_frame.new.cursor) c.in_ok-part.part c.requires (c.in_ok-frame.ensures.framing ∙ c.framing.ensures) (g.met.C.Cursor.stands c.read_inside.new.cursor) c.in_ok-frame.ensures.opened c.in_ok-part.ensures c.in_ok-close_frame.ensures
+read_part-returns g t c = closed c.args.mode (type_shape c.args.ty.now) c.in_ok-frame.frame.framing c.in_ok-frame.frame.outer (g.C.Cursor.state c.args.cursor.now) (g.C.Cursor.state c.open_frame.new.cursor) (g.C.Cursor.state c.read_inside.new.cursor) (g.C.Cursor.state c.close_frame.new.cursor) c.in_ok-part.part c.requires.sound (c.in_ok-frame.ensures.framing ∙ c.framing.ensures) (g.met.C.Cursor.stands c.read_inside.new.cursor) c.in_ok-frame.ensures.opened c.in_ok-part.ensures c.in_ok-close_frame.ensures
 
 -- ---- the items of a collection
 
@@ -125,36 +126,30 @@ read_items-returns-in-Some g t c =
 
 -- ---- members in declared order
 
-pub read_members-loop-member-init : goal.read_members-loop-member-init
-read_members-loop-member-init g t c = record {
-  ahead = members_begin c.args.mode c.args.cut c.args.members.now _ (g.C.Cursor.state c.args.cursor.now) c.new-slots.ensures.none c.requires.apart;
-  sound = c.requires.sound;
-}
+pub read_members-loop-at-init : goal.read_members-loop-at-init
+read_members-loop-at-init g t c = members_begin c.args.mode c.args.cut c.args.members.now _ (g.C.Cursor.state c.args.cursor.now) c.new-slots.ensures.none c.requires.apart
 
 pub read_members-returns-in_err-read_slot : goal.read_members-returns-in_err-read_slot
 read_members-returns-in_err-read_slot g t c =
-    let m = c.member-item.result in
+    let m = c.index-members-at.result in
     let ms = c.args.members.now in
-    let i = c.loop-member.member-index in
-    let so = slots_of c.loop-member.slots in
+    let i = c.loop-at.at in
+    let so = slots_of c.loop-at.slots in
     let p = err_from_is_err_and c.from_residual.result c.from_residual.ensures.1 in
-    rw (p.1, p.2) (fails (λ u. slots_of c.read_slot.new.slots) part_of (slot_more c.args.mode c.args.cut (member_head m) (type_shape m.ty) so) (λ x. members_from c.args.mode c.args.cut ms (i + 1) x) (more_next c.args.mode c.args.cut ms i m so c.loop-member-test.true c.member-item.is c.loop-member.invariant.ahead) c.in_err-read_slot.ensures)
+    rw (p.1, p.2) (fails (λ u. slots_of c.read_slot.new.slots) part_of (slot_more c.args.mode c.args.cut (member_head m) (type_shape m.ty) so) (λ x. members_from c.args.mode c.args.cut ms (i + 1) x) (more_next c.args.mode c.args.cut ms i m so c.loop-at-test.true c.index-members-at.is c.loop-at.invariant) c.in_err-read_slot.ensures)
 
-pub read_members-loop-member-preserved : goal.read_members-loop-member-preserved
-read_members-loop-member-preserved g t c =
-    let m = c.member-item.result in
+pub read_members-loop-at-preserved : goal.read_members-loop-at-preserved
+read_members-loop-at-preserved g t c =
+    let m = c.index-members-at.result in
     let ms = c.args.members.now in
-    let i = c.loop-member.member-index in
-    let so = slots_of c.loop-member.slots in
-    record {
-      ahead = goes_on (λ u. slots_of c.read_slot.new.slots) (slot_more c.args.mode c.args.cut (member_head m) (type_shape m.ty) so) (λ x. members_from c.args.mode c.args.cut ms (i + 1) x) (more_next c.args.mode c.args.cut ms i m so c.loop-member-test.true c.member-item.is c.loop-member.invariant.ahead) c.in_ok-read_slot.ensures;
-      sound = sound_more ms i m c.loop-member.invariant.sound c.loop-member-test.true;
-    }
+    let i = c.loop-at.at in
+    let so = slots_of c.loop-at.slots in
+    goes_on (λ u. slots_of c.read_slot.new.slots) (slot_more c.args.mode c.args.cut (member_head m) (type_shape m.ty) so) (λ x. members_from c.args.mode c.args.cut ms (i + 1) x) (more_next c.args.mode c.args.cut ms i m so c.loop-at-test.true c.index-members-at.is c.loop-at.invariant) c.in_ok-read_slot.ensures
 
 pub read_members-returns : goal.read_members-returns
 read_members-returns g t c =
-    let so = slots_of c.loop-member.slots in
-    ends part_of (λ o. structure_of so) (members_none c.args.mode c.args.cut c.args.members.now c.loop-member.member-index so c.loop-member-test.false c.loop-member.invariant.ahead) c.part.ensures
+    let so = slots_of c.loop-at.slots in
+    ends part_of (λ o. structure_of so) (members_none c.args.mode c.args.cut c.args.members.now c.loop-at.at so c.loop-at-test.false c.loop-at.invariant) c.part-2.ensures
 
 -- ---- a member
 
@@ -610,8 +605,9 @@ read_union-returns-in-Mutable g t c =
 pub read_case-read_body-requires : goal.read_case-read_body-requires
 read_case-read_body-requires g t c =
     let within = c.in-Case.ensures.within in
-    let fine = rw (← c.index-cases-at.is) at (sound_case c.args.cases.now c.in-Case.at c.index-cases-at.result within c.requires) in
+    let fine = rw (← c.index-cases-at.is) at (sound_case c.args.cases.now c.in-Case.at c.index-cases-at.result within c.requires.sound) in
     let smaller = rw (← c.index-cases-at.is) at (at_most case_laws.the_size c.args.cases.now c.in-Case.at c.index-cases-at.result within) in
+    let guided = case_guided c.args.cases.now c.args.guide.now c.part.result.now c.in-Case.at c.index-cases-at.result c.index-cases-at.is within c.requires.guide c.part.ensures in
     search rules
 
 pub read_piece-read_member-requires : goal.read_piece-read_member-requires
@@ -619,4 +615,13 @@ read_piece-read_member-requires g t c =
     let within = rw c.in-Some.is at c.in_ok-place.ensures.within in
     let fine = sound_item c.args.members.now c.in-Some.at c.index-members-at.result c.requires.sound within in
     let smaller = at_most member_laws.the_size c.args.members.now c.in-Some.at c.index-members-at.result within in
+    let guided = member_guided c.args.members.now c.args.guide.now c.part.result.now c.in-Some.at c.index-members-at.result c.index-members-at.is within c.requires.guide c.part.ensures in
+    search rules
+
+pub read_members-read_slot-requires : goal.read_members-read_slot-requires
+read_members-read_slot-requires g t c =
+    let within = c.loop-at-test.true in
+    let fine = sound_item c.args.members.now c.loop-at.at c.index-members-at.result c.requires.sound within in
+    let smaller = at_most member_laws.the_size c.args.members.now c.loop-at.at c.index-members-at.result within in
+    let guided = member_guided c.args.members.now c.args.guide.now c.part.result.now c.loop-at.at c.index-members-at.result c.index-members-at.is within c.requires.guide c.part.ensures in
     search rules

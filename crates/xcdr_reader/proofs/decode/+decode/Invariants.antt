@@ -1,7 +1,6 @@
-use Rattle.std.proofs.Common.{◌≡◌, ◌-◌, true, drop}
+use Rattle.std.proofs.Common.{◌-◌}
 use Rattle.type_trees.specs.Bridge.{type_shape, members_shape}
 use Rattle.xt_shapes.specs.Defaults.{default_of}
-use Rattle.xcdr_model.specs.Premises.{sound_members}
 use Rattle.settled_parts.specs.Items.{items_of, items_then}
 use Rattle.settled_parts.specs.Entries.{entries_of}
 use Rattle.settled_parts.specs.Members.{slots_of}
@@ -19,11 +18,8 @@ invariant-read_items-loop-at g l = Ahead (items_read l.mode l.bound l.elem.tc (t
 abbrev pub invariant-read_entries-loop-at : goal.invariant-read_entries-loop-at
 invariant-read_entries-loop-at g l = Ahead (entries_read l.mode l.kind.bound l.kind.key.tc (type_shape l.kind.key.ty) l.kind.value.tc (type_shape l.kind.value.ty)) (entries_from l.mode l.kind.bound l.kind.key.tc (type_shape l.kind.key.ty) l.kind.value.tc (type_shape l.kind.value.ty) l.count l.at (entries_of l.entries)) (g.C.Cursor.state l.fn.cursor) (g.C.Cursor.state l.cursor)
 
-abbrev pub invariant-read_members-loop-member : goal.invariant-read_members-loop-member
-invariant-read_members-loop-member g l = record {
-  ahead : Ahead (members_read l.mode l.cut (members_shape l.members)) (members_from l.mode l.cut l.members l.member-index (slots_of l.slots)) (g.C.Cursor.state l.fn.cursor) (g.C.Cursor.state l.cursor);
-  sound : sound_members (members_shape (drop l.member-index l.members)) ≡ true;
-}
+abbrev pub invariant-read_members-loop-at : goal.invariant-read_members-loop-at
+invariant-read_members-loop-at g l = Ahead (members_read l.mode l.cut (members_shape l.members)) (members_from l.mode l.cut l.members l.at (slots_of l.slots)) (g.C.Cursor.state l.fn.cursor) (g.C.Cursor.state l.cursor)
 
 -- What is left to read is the pieces from here on, behind those that came.
 abbrev pub invariant-read_pieces-loop-turn : goal.invariant-read_pieces-loop-turn

@@ -7,7 +7,7 @@ use Rattle.xcdr_steps.specs.again.Rereading.{rereading_state}
 use Rattle.xcdr_steps.proofs.OfAgain.Back.{back}
 use Rattle.xcdr_reader.specs.Bodies.{value_outcome}
 use Rattle.xcdr_reader.proofs.Values.{comes_typed_if, comes_light_if}
-use Rattle.xcdr_reader.proofs.body.decode_value.Goals as goal
+use Rattle.xcdr_reader.proofs.body.decode_guided.Goals as goal
 
 pub returns-clause-value : goal.returns-clause-value
 returns-clause-value g c =
@@ -20,11 +20,11 @@ returns-clause-value g c =
 pub returns-clause-typed : goal.returns-clause-typed
 returns-clause-typed g c =
     let t = type_shape c.args.reader.now in
-    let kept = c.shape_keeps_rules.ensures _ c.requires in
+    let kept = c.shape_keeps_rules.ensures _ c.requires.valid in
     comes_typed_if outcome_val c.args.rep t _ (λ o s s2 v u small is. c.value_typed.ensures c.args.rep o t s s2 v u kept small is) (returns-clause-value g c)
 
 pub returns-clause-light : goal.returns-clause-light
 returns-clause-light g c =
     let t = type_shape c.args.reader.now in
-    let kept = c.shape_keeps_rules.ensures _ c.requires in
+    let kept = c.shape_keeps_rules.ensures _ c.requires.valid in
     comes_light_if outcome_val c.args.rep t _ (g.met.C.Cursor.stands c.args.cursor.now) (g.met.C.Cursor.stands _) (λ o s s2 v u is. c.value_nodes_bound.ensures c.args.rep o t s s2 v u kept is) (returns-clause-value g c)

@@ -5,7 +5,7 @@ use Rattle.xcdr_samples.proofs.OfFrames.Samples.{sample_unbegun, sample_fails, s
 use Rattle.xcdr_reader.specs.Bodies.{value_outcome}
 use Rattle.xcdr_samples.proofs.Bodies.{by_parts}
 use Rattle.xcdr_samples.proofs.Outcomes.{sample_typed, sample_light}
-use Rattle.xcdr_samples.proofs.samples.read_sample.Goals as goal
+use Rattle.xcdr_samples.proofs.samples.read_guided.Goals as goal
 
 pub returns-in_err-sample-clause-value : goal.returns-in_err-sample-clause-value
 returns-in_err-sample-clause-value g c =
@@ -26,7 +26,7 @@ pub returns-in_err-close_sample-clause-value : goal.returns-in_err-close_sample-
 returns-in_err-close_sample-clause-value g c =
     let t = type_shape c.args.reader.now in
     let p = err_from_is_err_and c.from_residual-in_err-close_sample.result c.from_residual-in_err-close_sample.ensures.1 in
-    rw (p.1, p.2) (by_parts outcome_val c.args.rep t c.top_of.result c.body_is_value.ensures c.top_of.ensures (sample_unended outcome_val c.args.rep c.top_of.result (value_outcome c.args.rep t) (g.met.C.Cursor.stands c.decode_value.new.cursor) c.in_ok-sample.ensures.begun c.in_ok-outcome.ensures.value c.in_err-close_sample.ensures))
+    rw (p.1, p.2) (by_parts outcome_val c.args.rep t c.top_of.result c.body_is_value.ensures c.top_of.ensures (sample_unended outcome_val c.args.rep c.top_of.result (value_outcome c.args.rep t) (g.met.C.Cursor.stands c.decode_guided.new.cursor) c.in_ok-sample.ensures.begun c.in_ok-outcome.ensures.value c.in_err-close_sample.ensures))
 
 pub returns-clause-whole : goal.returns-clause-whole
 returns-clause-whole g c = sample_end c.in_ok-sample.ensures.begun c.in_ok-close_sample.ensures
@@ -34,18 +34,18 @@ returns-clause-whole g c = sample_end c.in_ok-sample.ensures.begun c.in_ok-close
 pub returns-clause-value : goal.returns-clause-value
 returns-clause-value g c =
     let t = type_shape c.args.reader.now in
-    by_parts outcome_val c.args.rep t c.top_of.result c.body_is_value.ensures c.top_of.ensures (sample_ends outcome_val c.args.rep c.top_of.result (value_outcome c.args.rep t) (g.met.C.Cursor.stands c.decode_value.new.cursor) c.in_ok-sample.ensures.begun c.in_ok-outcome.ensures.value c.in_ok-close_sample.ensures)
+    by_parts outcome_val c.args.rep t c.top_of.result c.body_is_value.ensures c.top_of.ensures (sample_ends outcome_val c.args.rep c.top_of.result (value_outcome c.args.rep t) (g.met.C.Cursor.stands c.decode_guided.new.cursor) c.in_ok-sample.ensures.begun c.in_ok-outcome.ensures.value c.in_ok-close_sample.ensures)
 
 pub returns-clause-typed : goal.returns-clause-typed
 returns-clause-typed g c =
     let t = type_shape c.args.reader.now in
-    let kept = c.shape_keeps_rules.ensures _ c.requires in
+    let kept = c.shape_keeps_rules.ensures _ c.requires.valid in
     sample_typed outcome_val c.args.rep t (λ s v small is. c.sample_typed.ensures c.args.rep t s v kept small is)
-    (by_parts outcome_val c.args.rep t c.top_of.result c.body_is_value.ensures c.top_of.ensures (sample_ends outcome_val c.args.rep c.top_of.result (value_outcome c.args.rep t) (g.met.C.Cursor.stands c.decode_value.new.cursor) c.in_ok-sample.ensures.begun c.in_ok-outcome.ensures.value c.in_ok-close_sample.ensures))
+    (by_parts outcome_val c.args.rep t c.top_of.result c.body_is_value.ensures c.top_of.ensures (sample_ends outcome_val c.args.rep c.top_of.result (value_outcome c.args.rep t) (g.met.C.Cursor.stands c.decode_guided.new.cursor) c.in_ok-sample.ensures.begun c.in_ok-outcome.ensures.value c.in_ok-close_sample.ensures))
 
 pub returns-clause-light : goal.returns-clause-light
 returns-clause-light g c =
     let t = type_shape c.args.reader.now in
-    let kept = c.shape_keeps_rules.ensures _ c.requires in
+    let kept = c.shape_keeps_rules.ensures _ c.requires.valid in
     sample_light outcome_val c.args.rep t (g.met.C.Cursor.stands c.args.cursor.now) (sample_end c.in_ok-sample.ensures.begun c.in_ok-close_sample.ensures) (λ s v is. c.sample_nodes_bound.ensures c.args.rep t s v kept is)
-    (by_parts outcome_val c.args.rep t c.top_of.result c.body_is_value.ensures c.top_of.ensures (sample_ends outcome_val c.args.rep c.top_of.result (value_outcome c.args.rep t) (g.met.C.Cursor.stands c.decode_value.new.cursor) c.in_ok-sample.ensures.begun c.in_ok-outcome.ensures.value c.in_ok-close_sample.ensures))
+    (by_parts outcome_val c.args.rep t c.top_of.result c.body_is_value.ensures c.top_of.ensures (sample_ends outcome_val c.args.rep c.top_of.result (value_outcome c.args.rep t) (g.met.C.Cursor.stands c.decode_guided.new.cursor) c.in_ok-sample.ensures.begun c.in_ok-outcome.ensures.value c.in_ok-close_sample.ensures))

@@ -1,0 +1,44 @@
+//! What is made of a reader's type once, before its samples come.
+ghost use Rattle.std.specs.Prelude.{◌≡◌};
+ghost use Rattle.type_trees.specs.View.{tree};
+ghost use Rattle.tool_samples.specs.Sampling.{IsPrepared};
+
+use packed_json::{Plan, plan_of};
+use packed_reader::may_be_plain;
+use settled_parts::Guide;
+use std::alloc::Global;
+use type_trees::XType;
+use xt_shapes::{Ext, Rep};
+use xt_wire::numbers::top_of;
+
+/// What is made of a reader's type once: how its values are written, if it has a plan; where its literals and cases are found; and whether its
+/// samples in a representation may be plain.
+#[derive(Drop)]
+pub struct Prepared {
+    pub plan: Option<Plan>,
+    pub guide: Guide,
+    pub may_be_plain: bool,
+}
+
+// Whether samples may be plain: a parameter list has no members in a row.
+fn samples_may_be_plain(rep: Rep, ty: &XType) -> bool {
+    if rep == Rep::Xcdr1 && top_of(ty) == Ext::Mutable {
+        return false;
+    }
+    may_be_plain(ty)
+}
+
+impl Prepared {
+    /// What is made of a type whose samples come in that representation. It takes memory in the size of the type; where memory is wanting less is
+    /// made, which costs time alone.
+    pub fn of(alloc: Global, rep: Rep, ty: &XType) -> Prepared
+        ensures { IsPrepared (tree ty.now) result }
+    {
+        let plan = plan_of(alloc, ty);
+        Prepared {
+            may_be_plain: plan.is_some() && samples_may_be_plain(rep, ty),
+            plan,
+            guide: Guide::of(alloc, ty),
+        }
+    }
+}
