@@ -19,8 +19,8 @@ use Rattle.type_trees.specs.Trees.{Tree, UnionHead, union}
 use Rattle.type_trees.specs.View.{tree, case_tree, cases_tree, union_tree}
 use Rattle.type_trees.specs.Bridge.{cases_shape}
 use Rattle.type_trees.proofs.Views.{case_tree_is, union_tree_is}
-use Rattle.settled_parts.specs.declared.guides.CaseIndex.{CaseIndex}
-use Rattle.settled_parts.specs.Guides.{Indexes, case_index, found_at}
+use Rattle.try_construct.specs.declared.guides.CaseIndex.{CaseIndex}
+use Rattle.try_construct.specs.Guides.{Indexes, case_index, found_at}
 use Rattle.json_values.specs.Written.{data_of, body_data, case_data, value_key, json_text}
 use Rattle.packed_json.specs.declared.plan.Plan.{Plan}
 use Rattle.packed_json.specs.Plans.{Meaning, meaning, IsPlanOf, PlansCases, WritesBody, body_text, body_fits, found_case, union_meaning}

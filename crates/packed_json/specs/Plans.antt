@@ -8,8 +8,8 @@ use Rattle.serde_json.specs.Data as json
 use Rattle.serde_json.specs.Data.{Data, put}
 use Rattle.serde_json.specs.Written.{compact_text, members_text, comma_if}
 use Rattle.xt_shapes.specs.Vals.{Val, int, listed, mapped, struct_of, union_of, Vals, no_vals, one_val, vals_of, Pairs, no_pairs, one_pair, pairs_of, Slots, no_slots, one_slot, Slot, absent, present}
-use Rattle.settled_parts.specs.declared.guides.CaseIndex.{CaseIndex}
-use Rattle.settled_parts.specs.Guides.{found_at}
+use Rattle.try_construct.specs.declared.guides.CaseIndex.{CaseIndex}
+use Rattle.try_construct.specs.Guides.{found_at}
 use Rattle.type_trees.specs.declared.types.Case.{Case}
 use Rattle.type_trees.specs.declared.types.Literal.{Literal}
 use Rattle.type_trees.specs.declared.types.Member.{Member}

@@ -8,9 +8,9 @@ ghost use Rattle.json_values.specs.Names.{name_text};
 ghost use Rattle.packed_json.specs.Plans.{IsPlanOf, IsPlanned, IsOrderOf, PlansMembers, PlansCases, PlansLiterals, IsListPlanOf, entries_by, put_if, key_text, meaning, part, struct_meaning, list_meaning, literal_meaning};
 
 use crate::texts::{put, put_quoted};
-use settled_parts::CaseIndex;
 use std::alloc::Global;
 use std::collections::BTreeMap;
+use try_construct::CaseIndex;
 use type_trees::{
     Case, Elem, EnumType, Literal, MapType, Member, Name, StructType, UnionType, XType,
 };

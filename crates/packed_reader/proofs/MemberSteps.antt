@@ -10,9 +10,9 @@ use Rattle.xt_shapes.specs.Vals.{Val, Slot as Body, absent, present, struct_of, 
 use Rattle.type_trees.specs.declared.types.Member as declared
 use Rattle.type_trees.specs.Bridge.{type_shape, members_shape, member_head}
 use Rattle.type_trees.proofs.Views.{member_tree_is}
-use Rattle.settled_parts.specs.declared.guides.Guide.{Guide}
-use Rattle.settled_parts.specs.Guides.{IsGuide, AreGuides, part_at}
-use Rattle.settled_parts.proofs.GuideSteps.{guide_of_member}
+use Rattle.try_construct.specs.declared.guides.Guide.{Guide}
+use Rattle.try_construct.specs.Guides.{IsGuide, AreGuides, part_at}
+use Rattle.try_construct.proofs.GuideSteps.{guide_of_member}
 use Rattle.xcdr_model.specs.Premises.{distinct_members, sound, sound_members}
 use Rattle.xcdr_model.specs.Projection.{Part, whole_structure}
 use Rattle.xcdr_model.specs.Reading.{Spot, Reading, ◌>>=◌}

@@ -9,7 +9,7 @@ use Rattle.xt_shapes.specs.Shape.{Head, Shape, Members, member}
 use Rattle.xt_shapes.specs.Vals.{Val, Slot as Body, absent, present, struct_of, slots_of}
 use Rattle.type_trees.specs.declared.types.Member as declared
 use Rattle.type_trees.specs.Bridge.{type_shape, members_shape, member_head}
-use Rattle.settled_parts.proofs.StructureSteps.{same_id, other_id, not_true}
+use Rattle.try_construct.proofs.StructureSteps.{same_id, other_id, not_true}
 use Rattle.xcdr_model.specs.Numbers.{padding}
 use Rattle.xcdr_model.specs.Premises.{distinct_members}
 use Rattle.xcdr_model.specs.Projection.{Part, whole_structure}

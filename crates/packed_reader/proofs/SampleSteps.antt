@@ -9,8 +9,8 @@ use Rattle.xt_shapes.specs.declared.leaves.Rep.TheVariants.{Xcdr1, Xcdr2}
 use Rattle.xt_shapes.specs.Kinds.{as_structure}
 use Rattle.xt_shapes.specs.Shape.{Shape, prim, str, enumeration, bitmask, sequence, array, map_of, structure, union, Members}
 use Rattle.xt_shapes.specs.Vals.{Val}
-use Rattle.settled_parts.specs.declared.guides.Guide.{Guide}
-use Rattle.settled_parts.specs.Guides.{IsGuide, AreGuides}
+use Rattle.try_construct.specs.declared.guides.Guide.{Guide}
+use Rattle.try_construct.specs.Guides.{IsGuide, AreGuides}
 use Rattle.xcdr_model.specs.Premises.{sound, sound_members, distinct_members, some_member}
 use Rattle.xcdr_model.specs.Reading.{Spot, ◌>>=◌}
 use Rattle.xcdr_model.specs.Samples.{top_ext, read_sample, sample}

@@ -11,8 +11,8 @@ use Rattle.xt_shapes.specs.Vals.{Val, Slot as Body, absent, present, struct_of, 
 use Rattle.xcdr_model.specs.Premises.{distinct_members}
 use Rattle.xcdr_model.specs.Projection.{Part, got, settled, slot_default, slot_from, whole_structure}
 use Rattle.xcdr_model.specs.Xcdr2Reading.{read_named}
-use Rattle.settled_parts.specs.Members.{and_slot, built_in, unseen_in, slots_then, parts_by_id}
-use Rattle.settled_parts.proofs.StructureSteps.{slots_whole, other_id, not_true}
+use Rattle.try_construct.specs.Members.{and_slot, built_in, unseen_in, slots_then, parts_by_id}
+use Rattle.try_construct.proofs.StructureSteps.{slots_whole, other_id, not_true}
 use Rattle.packed_reader.specs.Reads.{plain, own_parts, MayBe}
 
 -- what came of a member, by its slot

@@ -7,7 +7,7 @@ ghost use Rattle.xt_shapes.specs.declared.leaves.Ext.TheVariants.{Appendable, Mu
 ghost use Rattle.xt_shapes.specs.Shape as model;
 ghost use Rattle.xt_shapes.specs.Shape.{product};
 ghost use Rattle.xcdr_model.specs.Xcdr2Reading.{is_primitive};
-ghost use Rattle.settled_parts.specs.Guides.{IsGuide, AreGuides, part_at};
+ghost use Rattle.try_construct.specs.Guides.{IsGuide, AreGuides, part_at};
 ghost use Rattle.packed_reader.specs.View.{packed_val, packed_slot};
 ghost use Rattle.packed_reader.specs.Spots.{spot_of};
 ghost use Rattle.packed_reader.specs.Pieces.{ReadsPiece, ReadsPieces};
@@ -19,8 +19,8 @@ use crate::lists::read_numbers;
 use crate::numbers::{next_region, next_word};
 use crate::pieces::next_content;
 use crate::values::{Packed, PackedSlot};
-use settled_parts::Guide;
 use std::alloc::Global;
+use try_construct::Guide;
 use type_trees::sizes::elements_of;
 use type_trees::{Elem, Member, StructType, XType, as_prim};
 use type_values::is_past;

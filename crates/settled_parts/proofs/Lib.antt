@@ -1,9 +1,2 @@
 pub mod PartSteps
-pub mod GatherSteps
-pub mod ItemSteps
 pub mod LiteralSteps
-pub mod EntrySteps
-pub mod MemberSteps
-pub mod StructureSteps
-pub mod CasesByIndex
-pub mod GuideSteps

@@ -15,7 +15,7 @@ use xt_lists::{OutOfMemory, Text};
 
 /// An enumeration's value, where a literal is known to have it or none to.
 #[inline(always)]
-pub(crate) fn literal_part(is_known: bool, number: i128) -> Part
+pub fn literal_part(is_known: bool, number: i128) -> Part
     ensures { part_of result ≡ (cond is_known (model.got (int number)) model.failed, false) }
 {
     if is_known {

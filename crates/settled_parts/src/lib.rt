@@ -1,23 +1,13 @@
 //! What becomes of parts that were built: settling by the setting of their place (TryConstruct, DDS-XTypes 1.3, 7.2.2.7), and the
-//! wholes that settled parts make, gathered as the parts come.
+//! parts that texts and values of enumerations are.
 #![tactic(auto)]
 
-mod entries;
-mod guides;
-mod guiding;
-mod items;
 mod leaves;
 mod literals;
-mod members;
 mod part;
 mod settling;
-mod unions;
 
-pub use entries::Entries;
-pub use guides::{CaseIndex, Guide, Known};
-pub use items::Items;
-pub use leaves::{enum_part, text_from, text_part};
-pub use members::{MemberSlots, Slots, slot_from};
+pub use leaves::{enum_part, literal_part, text_from, text_part};
+pub use literals::is_value;
 pub use part::{Made, Part, Settled, outcome, settle_part};
-pub use settling::{Built, Outcome, settle};
-pub use unions::{SettledCase, fits_disc, settle_case, whole_union};
+pub use settling::{Built, Outcome, default_slot, settle};

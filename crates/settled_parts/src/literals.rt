@@ -29,7 +29,7 @@ fn is_met(literals: &[Literal], number: i128) -> bool
 }
 
 /// Whether a literal has that value. Where the values rise and one is that value, it is found by halving; else they are gone through.
-pub(crate) fn is_value(literals: &[Literal], number: i128) -> bool
+pub fn is_value(literals: &[Literal], number: i128) -> bool
     ensures { result ≡ is_literal (map literal_shape literals.now) number }
 {
     is_met(literals, number) || has_literal(literals, number)

@@ -32,7 +32,7 @@ pub enum Outcome {
 
 /// The default at a place: absent where it is optional.
 #[tactic(auto, using(type_trees::proofs::Views::val_rules))]
-pub(crate) fn default_slot(alloc: Global, optional: bool, ty: &XType) -> Result<Slot, OutOfMemory>
+pub fn default_slot(alloc: Global, optional: bool, ty: &XType) -> Result<Slot, OutOfMemory>
     ensures { IfOk result (λ s. body_val s ≡ slot_default_of optional (type_shape ty.now)) }
 {
     if optional {

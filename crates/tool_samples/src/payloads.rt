@@ -4,15 +4,16 @@ ghost use Rattle.type_trees.specs.View.{tree};
 ghost use Rattle.type_trees.specs.Bridge.{type_shape};
 ghost use Rattle.projection_laws.specs.Premises.{IsValid};
 ghost use Rattle.xcdr_model.specs.Samples.{read_sample};
-ghost use Rattle.settled_parts.specs.Guides.{IsGuide};
+ghost use Rattle.try_construct.specs.Guides.{IsGuide};
 ghost use Rattle.tool_samples.specs.Sampling.{IsPrepared, Taken};
 ghost use Rattle.tool_samples.specs.lines.Lines.{sample_line};
 
 use crate::forms::{Lines, Shows};
 use crate::prepared::Prepared;
 use packed_reader::read_plain;
-use settled_parts::{Guide, Outcome};
+use settled_parts::Outcome;
 use std::alloc::Global;
+use try_construct::Guide;
 use type_trees::XType;
 use xcdr_samples::read_guided;
 use xt_lists::{OutOfMemory, Text};

@@ -5,8 +5,8 @@ ghost use Rattle.tool_samples.specs.Sampling.{IsPrepared};
 
 use packed_json::{Plan, plan_of};
 use packed_reader::may_be_plain;
-use settled_parts::Guide;
 use std::alloc::Global;
+use try_construct::Guide;
 use type_trees::XType;
 use xt_shapes::{Ext, Rep};
 use xt_wire::numbers::top_of;

@@ -14,9 +14,9 @@ use Rattle.type_trees.proofs.Shapes.{members_shape_first, members_shape_at, case
 use Rattle.std.proofs.lemmas.List.{drop_all}
 use Rattle.xcdr_model.specs.Premises.{distinct_members, sound, sound_members, sound_cases}
 use Rattle.xcdr_model.specs.Projection.{Part, with_shape, part_at, is_present, lacks_must, slot_from, with_part, projected, projected_members, whole_structure, any_unseen}
-use Rattle.settled_parts.specs.Members.{and_slot, built_in, unseen_in, structure_of, slots_then, parts_by_id}
-use Rattle.settled_parts.proofs.StructureSteps.{other_id, same_id, not_true, slots_whole}
-use Rattle.settled_parts.proofs.GatherSteps.{or_false}
+use Rattle.try_construct.specs.Members.{and_slot, built_in, unseen_in, structure_of, slots_then, parts_by_id}
+use Rattle.try_construct.proofs.StructureSteps.{other_id, same_id, not_true, slots_whole}
+use Rattle.try_construct.proofs.GatherSteps.{or_false}
 use Rattle.try_construct.specs.Steps.{member_built, parts_built}
 use Rattle.try_construct.specs.Found.{IsAt, IsFound, LacksBetween}
 use Rattle.try_construct.specs.Present.{slot_with, slot_at}

@@ -1,3 +1,11 @@
+pub mod GatherSteps
+pub mod ItemSteps
+pub mod EntrySteps
+pub mod MemberSteps
+pub mod StructureSteps
+pub mod CasesByIndex
+pub mod GuideSteps
+pub mod GuideProps
 pub mod FoundSteps
 pub mod SoundSteps
 pub mod WholeSteps

@@ -1,3 +1,9 @@
+pub mod Gathering
+pub mod Items
+pub mod Entries
+pub mod Members
+pub mod Unions
+pub mod Guides
 pub mod Present
 pub mod Found
 pub mod Steps

@@ -2,7 +2,7 @@
 ghost use Rattle.std.specs.Prelude.{◌≡◌, ◌&&◌, true, false, cond, not, map, is_none, IfOk};
 ghost use Rattle.std.specs.Option.{option_map};
 ghost use Rattle.settled_parts.specs.Parts.{part_of};
-ghost use Rattle.settled_parts.specs.Unions.{case_of};
+ghost use Rattle.try_construct.specs.Unions.{case_of};
 ghost use Rattle.try_construct.specs.Found.{IsAt, IsFound};
 ghost use Rattle.try_construct.specs.Steps.{items_built, entries_built, member_built, structure_built, one_case_built, case_built, union_built};
 ghost use Rattle.type_trees.specs.Bridge.{shape, type_shape, members_shape, cases_shape, literal_shape, member_head, case_head};
@@ -15,16 +15,17 @@ ghost use Rattle.xt_shapes.specs.Kinds.{same_kind as same_kinds};
 ghost use Rattle.xt_shapes.specs.Select.{case_at as case_shape_at, has_member, is_literal, is_must};
 ghost use Rattle.xt_shapes.specs.Vals.{int, number_in as number_in_val, octets_in as octets_in_val, disc_in as disc_in_val, body_in as body_in_val};
 
+use crate::entries::Entries;
 use crate::found::index_of;
+use crate::items::Items;
 use crate::kinds::same_kind;
+use crate::members::{Slots, slot_from};
+use crate::unions::{SettledCase, fits_disc, settle_case, whole_union};
 use crate::value_parts::{
     body_in, disc_in, entries_in, is_present_at, items_in, number_in, octets_in, present_at,
     slots_in,
 };
-use settled_parts::{
-    Entries, Items, Part, SettledCase, Slots, enum_part, fits_disc, settle_case, slot_from,
-    text_part, whole_union,
-};
+use settled_parts::{Part, enum_part, text_part};
 use std::alloc::Global;
 use type_trees::{
     ArrayType, Case, Elem, Literal, MapType, Member, Pair, SeqType, Slot, StructType, UnionType,

@@ -18,7 +18,7 @@ use Rattle.xt_wire.specs.cursor.Decoding.{spot}
 use Rattle.xt_wire.proofs.OfCursor.Ahead.{Ahead, begins, rephrased, ended_is}
 use Rattle.xcdr_steps.specs.declared.reading.choices.Choice.{Choice}
 use Rattle.xcdr_steps.specs.declared.reading.choices.Choice.TheVariants.{NoCase, OneSided, Missing, Case}
-use Rattle.settled_parts.specs.Guides.{case_index}
+use Rattle.try_construct.specs.Guides.{case_index}
 use Rattle.xcdr_steps.specs.reading.Cases.{indexed, choice_with, choice_of, choice}
 use Rattle.xcdr_reader.specs.declared.modes.Mode.{Mode}
 use Rattle.xcdr_reader.specs.declared.modes.Mode.TheVariants.{Two, Inner, Tail}

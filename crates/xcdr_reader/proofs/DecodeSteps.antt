@@ -11,10 +11,10 @@ use Rattle.xcdr_model.specs.Premises.{distinct_members}
 use Rattle.xcdr_model.specs.Projection.{Part, whole_items, whole_entries}
 use Rattle.xcdr_model.specs.Reading.{Spot, Reading, ◌>>=◌, number_at, each_at}
 use Rattle.xcdr_model.specs.Xcdr2Reading.{done}
-use Rattle.settled_parts.specs.Gathering.{Gathered, none_yet}
-use Rattle.settled_parts.specs.Items.{items_then, and_item}
-use Rattle.settled_parts.specs.Entries.{entries_then, and_entry}
-use Rattle.settled_parts.specs.Members.{and_slot, structure_of}
+use Rattle.try_construct.specs.Gathering.{Gathered, none_yet}
+use Rattle.try_construct.specs.Items.{items_then, and_item}
+use Rattle.try_construct.specs.Entries.{entries_then, and_entry}
+use Rattle.try_construct.specs.Members.{and_slot, structure_of}
 use Rattle.xt_wire.specs.cursor.Standing.{Standing}
 use Rattle.xt_wire.specs.cursor.Decoding.{spot}
 use Rattle.xt_wire.proofs.OfCursor.Ahead.{Ahead, begins, rephrased}

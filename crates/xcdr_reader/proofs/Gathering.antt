@@ -5,10 +5,10 @@ use Rattle.xt_shapes.specs.Vals.{Val}
 use Rattle.xcdr_model.specs.Reading.{Spot, Reading, ◌>>=◌, each_at}
 use Rattle.xcdr_model.specs.Projection.{Part, whole_items, whole_entries}
 use Rattle.xcdr_model.specs.Xcdr2Reading.{done}
-use Rattle.settled_parts.specs.Gathering.{none_yet}
-use Rattle.settled_parts.specs.Items.{items_then}
-use Rattle.settled_parts.specs.Entries.{entries_then}
-use Rattle.settled_parts.proofs.GatherSteps.{items_whole, entries_whole}
+use Rattle.try_construct.specs.Gathering.{none_yet}
+use Rattle.try_construct.specs.Items.{items_then}
+use Rattle.try_construct.specs.Entries.{entries_then}
+use Rattle.try_construct.proofs.GatherSteps.{items_whole, entries_whole}
 
 pub bind_bind : {A B C : Type 0} (r : Reading A) (f : A × Spot → Reading B) (h : B × Spot → Reading C) → ((r >>= f) >>= h) ≡ (r >>= λ x. f x >>= h)
 unfolding ◌>>=◌

@@ -3,9 +3,9 @@ use Rattle.std.proofs.Common.{◌≡◌, sym, ℕ, ◌+◌, ◌<◌, List, lengt
 use Rattle.type_trees.specs.declared.types.Member.{Member}
 use Rattle.type_trees.specs.declared.types.Case.{Case}
 use Rattle.type_trees.specs.Bridge.{type_shape, members_shape, cases_shape}
-use Rattle.settled_parts.specs.declared.guides.Guide.{Guide}
-use Rattle.settled_parts.specs.Guides.{IsGuide, AreGuides, AreCaseGuides, part_at}
-use Rattle.settled_parts.proofs.GuideSteps.{guide_of_member, guide_of_case}
+use Rattle.try_construct.specs.declared.guides.Guide.{Guide}
+use Rattle.try_construct.specs.Guides.{IsGuide, AreGuides, AreCaseGuides, part_at}
+use Rattle.try_construct.proofs.GuideSteps.{guide_of_member, guide_of_case}
 
 -- the part at a member's position is the guide of its type
 pub member_guided : (ms : List Member) (g p : Guide) (i : ℕ) (d : Member) → d ≡ get_or ms i d → i < length ms → AreGuides (members_shape ms) g 0 → p ≡ part_at g i → IsGuide (type_shape d.ty) p

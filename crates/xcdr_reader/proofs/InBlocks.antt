@@ -17,8 +17,8 @@ use Rattle.xcdr_model.specs.Projection.{got, Part}
 use Rattle.xcdr_model.specs.Reading.{Spot, Reading, ◌>>=◌, step, number_at, octets_at}
 use Rattle.xcdr_model.specs.Xcdr1Reading.{read1}
 use Rattle.xcdr_model.specs.Xcdr2Reading.{read, done, scalar_at}
-use Rattle.settled_parts.specs.Gathering.{Gathered, none_yet}
-use Rattle.settled_parts.specs.Items.{items_then, and_item}
+use Rattle.try_construct.specs.Gathering.{Gathered, none_yet}
+use Rattle.try_construct.specs.Items.{items_then, and_item}
 use Rattle.xt_wire.specs.cursor.Standing.{Standing, Stands, Stayed, room, pad_of}
 use Rattle.xt_wire.specs.cursor.Decoding.{spot, after}
 use Rattle.xt_wire.proofs.OfCursor.Ahead.{Ahead, begins, rephrased, room_is, within_trans}

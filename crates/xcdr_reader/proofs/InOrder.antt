@@ -9,8 +9,8 @@ use Rattle.xcdr_model.specs.Reading.{Spot, Reading, ◌>>=◌}
 use Rattle.xcdr_model.specs.Projection.{Part, slot_from, whole_structure}
 use Rattle.xcdr_model.specs.Xcdr1Reading.{read_members1}
 use Rattle.xcdr_model.specs.Xcdr2Reading.{read_members, done}
-use Rattle.settled_parts.specs.Members.{and_slot, built_in, unseen_in, slots_then, structure_of, parts_by_id}
-use Rattle.settled_parts.proofs.StructureSteps.{slots_whole}
+use Rattle.try_construct.specs.Members.{and_slot, built_in, unseen_in, slots_then, structure_of, parts_by_id}
+use Rattle.try_construct.proofs.StructureSteps.{slots_whole}
 use Rattle.xcdr_reader.specs.declared.modes.Mode.{Mode}
 use Rattle.xcdr_reader.specs.declared.modes.Mode.TheVariants.{Two, Inner, Tail}
 use Rattle.xcdr_reader.specs.declared.comings.Coming.TheVariants.{Absent}

@@ -10,7 +10,7 @@ use Rattle.type_trees.specs.declared.types.Case as declared_case
 use Rattle.type_trees.specs.Bridge.{type_shape, members_shape, member_head, cases_shape}
 use Rattle.type_trees.proofs.Views.{member_tree_is, case_tree_is}
 use Rattle.xcdr_model.specs.Premises.{distinct_members, sound, sound_members, sound_cases}
-use Rattle.settled_parts.specs.Members.{at_index}
+use Rattle.try_construct.specs.Members.{at_index}
 use Rattle.xcdr_steps.specs.reading.Indices.{index_of}
 use Rattle.xcdr_reader.specs.declared.modes.Mode.{Mode}
 use Rattle.xcdr_reader.specs.Modes.{content_in}

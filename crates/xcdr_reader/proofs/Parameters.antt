@@ -11,7 +11,7 @@ use Rattle.xcdr_model.specs.Reading.{Spot, Reading, fault_at, ◌>>=◌, step, f
 use Rattle.xcdr_model.specs.Projection.{Part, whole_structure, built_at}
 use Rattle.xcdr_model.specs.Xcdr1Reading.{Mark, block_at, mark_at, first_octets, short_mark, long_mark, is_end, is_ignored, is_no_id, sized_at, shifted, closed_by, content_read, is_open, Params, pass_on, and_one, one_param, params_at, fault_of, params_read, read1, read_named1}
 use Rattle.xcdr_model.specs.Xcdr2Reading.{done, Piece, Contents, content_of, contents}
-use Rattle.settled_parts.proofs.GatherSteps.{or_assoc, or_false}
+use Rattle.try_construct.proofs.GatherSteps.{or_assoc, or_false}
 use Rattle.xcdr_steps.specs.reading.Headings.{Told, Next, ended, ignored, told}
 use Rattle.xcdr_steps.specs.one.Marks.{placed_mark}
 use Rattle.xcdr_steps.specs.one.Parameters.{told_of, with_content, parameter_of, parameter_at}

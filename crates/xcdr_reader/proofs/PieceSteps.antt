@@ -12,9 +12,9 @@ use Rattle.xcdr_model.specs.declared.malformed.Why.TheVariants.{Twice}
 use Rattle.xcdr_model.specs.Reading.{Spot, Reading, fault_at, ◌>>=◌}
 use Rattle.xt_wire.specs.cursor.Steps.{pass_at}
 use Rattle.xcdr_steps.specs.declared.reading.headings.Header.{Header}
-use Rattle.settled_parts.specs.Members.{by_member, so_far, have_come, and_slot_at, filled_of, at_index}
-use Rattle.settled_parts.proofs.StructureSteps.{comes, none_came, filled_whole, member_count}
-use Rattle.settled_parts.proofs.GatherSteps.{or_false}
+use Rattle.try_construct.specs.Members.{by_member, so_far, have_come, and_slot_at, filled_of, at_index}
+use Rattle.try_construct.proofs.StructureSteps.{comes, none_came, filled_whole, member_count}
+use Rattle.try_construct.proofs.GatherSteps.{or_false}
 use Rattle.xt_wire.specs.cursor.Standing.{Standing, Stands, room}
 use Rattle.xt_wire.specs.cursor.Decoding.{spot}
 use Rattle.xt_wire.proofs.OfCursor.Ahead.{Ahead, begins, rephrased, room_is}

@@ -9,7 +9,7 @@ use Rattle.xcdr_model.specs.declared.malformed.Why.TheVariants.{MemberId, Member
 use Rattle.xcdr_model.specs.Reading.{Spot, Reading, fault_at, ◌>>=◌, number_at, step, front, passing, filling, is_used_up}
 use Rattle.xcdr_model.specs.Projection.{Part, whole_structure, built_at}
 use Rattle.xcdr_model.specs.Xcdr2Reading.{read, read_named, done, Piece, Contents, piece_at, pieces_at, ends, and_more, content_of, contents, content_at, holder, members_at}
-use Rattle.settled_parts.proofs.GatherSteps.{or_assoc, or_false}
+use Rattle.try_construct.proofs.GatherSteps.{or_assoc, or_false}
 use Rattle.xcdr_steps.specs.reading.Headings.{Told, Next, ended, told}
 use Rattle.xcdr_steps.specs.two.Headers.{told_of, checked_header, header_at}
 use Rattle.xcdr_reader.specs.declared.modes.Mode.TheVariants.{Two}

@@ -3,7 +3,7 @@ use Rattle.std.proofs.Common.{◌≡◌, sym, ap, refl, ◌∙◌, ℕ, Bool, tr
 use Rattle.std.proofs.lemmas.Bool.{cases_Bool, eqb-true, ne_eqb, eqb-false}
 use Rattle.xt_shapes.specs.Lists.{has}
 use Rattle.xcdr_model.specs.Projection.{Built, Part, built_at}
-use Rattle.settled_parts.proofs.StructureSteps.{built_append, first_built}
+use Rattle.try_construct.proofs.StructureSteps.{built_append, first_built}
 use Rattle.xcdr_reader.specs.Members.{Pieces}
 
 abbrev pub Seen : List ℕ → Pieces → Type 0

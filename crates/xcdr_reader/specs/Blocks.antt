@@ -9,8 +9,8 @@ use Rattle.xcdr_model.specs.Numbers.{number, with_sign}
 use Rattle.xcdr_model.specs.Projection.{got, Part}
 use Rattle.xcdr_model.specs.Reading.{Spot, Reading, ◌>>=◌, octets_at}
 use Rattle.xt_wire.specs.cursor.Standing.{Standing, room, pad_of}
-use Rattle.settled_parts.specs.Gathering.{Gathered}
-use Rattle.settled_parts.specs.Items.{and_item}
+use Rattle.try_construct.specs.Gathering.{Gathered}
+use Rattle.try_construct.specs.Items.{and_item}
 use Rattle.xcdr_reader.specs.declared.modes.Mode.{Mode}
 use Rattle.xcdr_reader.specs.Modes.{most}
 

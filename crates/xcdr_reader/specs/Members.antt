@@ -5,7 +5,7 @@ use Rattle.xt_shapes.specs.Shape.{Members, no_members, member}
 use Rattle.xcdr_model.specs.declared.malformed.Why.TheVariants.{Twice, Short}
 use Rattle.xcdr_model.specs.Reading.{Spot, Reading, fault_at, ◌>>=◌, step}
 use Rattle.xcdr_model.specs.Projection.{Part, whole_structure, built_at}
-use Rattle.settled_parts.specs.Members.{by_member, so_far}
+use Rattle.try_construct.specs.Members.{by_member, so_far}
 use Rattle.settled_parts.specs.Parts.{part_of}
 use Rattle.xcdr_reader.specs.declared.known.Known.{Known}
 use Rattle.xcdr_reader.specs.declared.known.Piece.{Piece}

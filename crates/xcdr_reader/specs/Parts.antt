@@ -10,7 +10,7 @@ use Rattle.xcdr_model.specs.Reading.{Spot, Reading, ◌>>=◌, number_at, each_a
 use Rattle.xcdr_model.specs.Projection.{Part, Body, settled_case, slot_from, whole_items, whole_entries, whole_union, disc_built}
 use Rattle.xcdr_model.specs.Xcdr1Reading.{read_case1, case_read}
 use Rattle.xcdr_model.specs.Xcdr2Reading.{read_case, done, scalar_at, selected_at, rest_selected}
-use Rattle.settled_parts.specs.Members.{built_in, unseen_in, and_slot}
+use Rattle.try_construct.specs.Members.{built_in, unseen_in, and_slot}
 use Rattle.xcdr_steps.specs.reading.Counts.{counted}
 use Rattle.xcdr_reader.specs.declared.modes.Mode.{Mode}
 use Rattle.xcdr_reader.specs.declared.modes.Mode.TheVariants.{Two, Inner, Tail}

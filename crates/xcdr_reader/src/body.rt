@@ -2,7 +2,7 @@
 ghost use Rattle.std.specs.Prelude.{◌≡◌, IfOk};
 ghost use Rattle.type_trees.specs.Bridge.{type_shape};
 ghost use Rattle.projection_laws.specs.Premises.{IsValid};
-ghost use Rattle.settled_parts.specs.Guides.{IsGuide};
+ghost use Rattle.try_construct.specs.Guides.{IsGuide};
 ghost use Rattle.settled_parts.specs.Settling.{outcome_val};
 ghost use Rattle.xt_wire.specs.cursor.Decoding.{Decodes};
 ghost use Rattle.xt_wire.specs.cursor.Outcomes.{ComesTyped, ComesLight};
@@ -11,8 +11,9 @@ ghost use Rattle.xcdr_reader.specs.Bodies.{value_outcome, nothing_left, behind_u
 
 use crate::decode::read_part;
 use crate::modes::Mode;
-use settled_parts::{Guide, Outcome, outcome};
+use settled_parts::{Outcome, outcome};
 use std::alloc::Global;
+use try_construct::Guide;
 use type_rules::shape_keeps_rules;
 use type_trees::XType;
 use xcdr_model::Why;
@@ -83,7 +84,7 @@ fn read_value<C: Peeking>(
 /// Reads one value of the reader's type in that representation, at any place of the cursor's region; what is left behind the value is no
 /// fault, except behind a union in XCDR1, whose case has the rest of the region (Trailing). No writer's type is known (DDS-XTypes 1.3, 7.4.1
 /// and 7.4.2). A value that comes out has the reader's type, and at most the type's weight and 128 nodes for each octet that was read.
-#[tactic(auto, using(settled_parts::proofs::GuideSteps::nothing_guides))]
+#[tactic(auto, using(try_construct::proofs::GuideSteps::nothing_guides))]
 pub fn decode_value<C: Cursor>(
     alloc: Global,
     rep: Rep,

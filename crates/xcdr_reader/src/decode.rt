@@ -8,10 +8,10 @@ ghost use Rattle.xcdr_model.specs.Premises.{sound, distinct_members, sound_membe
 ghost use Rattle.xcdr_model.specs.Projection.{whole_structure};
 ghost use Rattle.xcdr_model.specs.Reading.{filling};
 ghost use Rattle.xcdr_model.specs.Xcdr2Reading.{read};
-ghost use Rattle.settled_parts.specs.Guides.{IsGuide, AreGuides, AreCaseGuides, TellsCases, part_at};
-ghost use Rattle.settled_parts.specs.Members.{by_member, slots_of};
+ghost use Rattle.try_construct.specs.Guides.{IsGuide, AreGuides, AreCaseGuides, TellsCases, part_at};
+ghost use Rattle.try_construct.specs.Members.{by_member, slots_of};
 ghost use Rattle.settled_parts.specs.Parts.{part_of};
-ghost use Rattle.settled_parts.specs.Unions.{case_of};
+ghost use Rattle.try_construct.specs.Unions.{case_of};
 ghost use Rattle.xt_wire.specs.cursor.Decoding.{Decodes};
 ghost use Rattle.xt_wire.specs.cursor.Standing.{room};
 ghost use Rattle.xcdr_steps.specs.reading.Headings.{header_view};
@@ -28,10 +28,11 @@ use crate::leaves::{
     read_disc, read_enum_part, read_mask_part, read_prim_part, read_text_part, short, spare_of,
 };
 use crate::modes::Mode;
-use settled_parts::{
-    Entries, Guide, Items, Part, SettledCase, Slots, settle_case, slot_from, whole_union,
-};
+use settled_parts::Part;
 use std::alloc::Global;
+use try_construct::{
+    Entries, Guide, Items, SettledCase, Slots, settle_case, slot_from, whole_union,
+};
 use type_trees::{Case, Elem, MapType, Member, StructType, UnionType, XType, as_prim};
 use xcdr_steps::again::Peeking;
 use xcdr_steps::one::{close_content, open_content};

@@ -3,13 +3,14 @@ ghost use Rattle.std.specs.Prelude.{◌≡◌, ◌<◌, [], ◌++◌, ◌||◌, 
 ghost use Rattle.type_trees.specs.Bridge.{members_shape};
 ghost use Rattle.xcdr_model.specs.Premises.{distinct_members};
 ghost use Rattle.xcdr_model.specs.Projection.{whole_structure};
-ghost use Rattle.settled_parts.specs.Members.{by_member};
+ghost use Rattle.try_construct.specs.Members.{by_member};
 ghost use Rattle.settled_parts.specs.Parts.{part_of};
 ghost use Rattle.xcdr_reader.specs.Members.{Pieces, Holds, IsIndexed, IsNew, IsPlace, IsWithin, piece_of};
 ghost use Rattle.xcdr_steps.specs.reading.Indices.{index_of};
 
-use settled_parts::{MemberSlots, Part, slot_from};
+use settled_parts::Part;
 use std::alloc::Global;
+use try_construct::{MemberSlots, slot_from};
 use type_trees::Member;
 use xcdr_steps::index::MemberIndex;
 use xcdr_steps::reading::{Header, find_member};

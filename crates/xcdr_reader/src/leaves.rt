@@ -7,15 +7,16 @@ ghost use Rattle.xcdr_model.specs.Xcdr2Reading.{scalar_at};
 ghost use Rattle.xcdr_model.specs.Xcdr1Reading.{is_open};
 ghost use Rattle.xcdr_steps.specs.one.Contents.{spare};
 ghost use Rattle.xcdr_reader.specs.Modes.{read_in, most};
-ghost use Rattle.settled_parts.specs.Guides.{TellsLiterals};
+ghost use Rattle.try_construct.specs.Guides.{TellsLiterals};
 ghost use Rattle.settled_parts.specs.Parts.{part_of};
 ghost use Rattle.xt_wire.specs.cursor.Decoding.{Decodes};
 ghost use Rattle.xt_wire.specs.declared.cursor.faults.DecodeFault.TheVariants.{Malformed};
 ghost use Rattle.xcdr_model.specs.declared.malformed.Why.TheVariants.{Short};
 
 use crate::modes::Mode;
-use settled_parts::{Guide, Part, text_from};
+use settled_parts::{Part, text_from};
 use std::alloc::Global;
+use try_construct::Guide;
 use type_trees::{EnumType, MaskType, XType};
 use xcdr_model::Why;
 use xcdr_steps::scalars::{read_enum, read_mask, read_prim, read_text};

@@ -3,15 +3,16 @@ ghost use Rattle.std.specs.Prelude.{◌≡◌, IfOk, OnOk};
 ghost use Rattle.xt_shapes.specs.declared.leaves.Rep.TheVariants.{Xcdr1, Xcdr2};
 ghost use Rattle.type_trees.specs.Bridge.{type_shape};
 ghost use Rattle.projection_laws.specs.Premises.{IsValid};
-ghost use Rattle.settled_parts.specs.Guides.{IsGuide};
+ghost use Rattle.try_construct.specs.Guides.{IsGuide};
 ghost use Rattle.settled_parts.specs.Settling.{outcome_val};
 ghost use Rattle.xt_wire.specs.cursor.Decoding.{Decodes};
 ghost use Rattle.xt_wire.specs.cursor.Outcomes.{ComesTyped, ComesLight};
 ghost use Rattle.xcdr_samples.specs.Samples.{sample_outcome};
 
 use crate::frames::{close_sample, open_sample};
-use settled_parts::{Guide, Outcome};
+use settled_parts::Outcome;
 use std::alloc::Global;
+use try_construct::Guide;
 use type_rules::shape_keeps_rules;
 use type_trees::XType;
 use xcdr_reader::decode_guided;
@@ -30,7 +31,7 @@ use xt_wire::numbers::top_of;
 /// body's first octet; Trailing at the first octet of the body that is left behind the value. ReadFault comes only where the cursor's count
 /// of faults rose. After a fault the cursor stands at some place of its old region that is not before the old one. A value that comes out has
 /// the reader's type, and at most the type's weight and 128 nodes for each octet of the region.
-#[tactic(auto, using(settled_parts::proofs::GuideSteps::nothing_guides))]
+#[tactic(auto, using(try_construct::proofs::GuideSteps::nothing_guides))]
 pub fn read_sample<C: Cursor>(
     alloc: Global,
     rep: Rep,

@@ -12,7 +12,7 @@ ghost use Rattle.json_values.specs.Written.{json_text};
 ghost use Rattle.json_values.specs.declared.faults.ValueFault.TheVariants.{OutOfMemory as NoMemory};
 ghost use Rattle.dynamic_data.specs.numbers.Kinds as kinds;
 ghost use Rattle.std.proofs.Props.{props};
-ghost use Rattle.tool_samples.specs.Props.{guide_prop};
+ghost use Rattle.try_construct.proofs.GuideProps.{guide_prop};
 ghost use Rattle.tool_samples.specs.lines.Lines as lines;
 ghost use Rattle.tool_runs.specs.output.Runs.{Comes};
 ghost use Rattle.xt_calls.specs.Calls as spec;

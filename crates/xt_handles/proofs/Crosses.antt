@@ -4,7 +4,7 @@ use Rattle.std.proofs.Crossing.{crosses}
 use Rattle.std.proofs.MapsCrossing as maps
 use Rattle.type_trees.proofs.types.XType.TheLaws.TheKnot as knot
 use Rattle.object_formats.proofs.objects.TypeIdentifier.TheLaws.TheKnot as identifier_knot
-use Rattle.settled_parts.proofs.guides.Guide.TheLaws.TheKnot as guide_knot
+use Rattle.try_construct.proofs.guides.Guide.TheLaws.TheKnot as guide_knot
 use Rattle.packed_json.proofs.plan.Plan.TheLaws.TheKnot as plan_knot
 use Rattle.idl_types.proofs.uses.Used.TheLaws.TheKnot as used_knot
 use Rattle.xt_lists.specs.contracts.texts.Text as Text

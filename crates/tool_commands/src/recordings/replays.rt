@@ -10,7 +10,7 @@ ghost use Rattle.tool_runs.specs.output.Runs.{Steps, StopsWriting};
 ghost use Rattle.type_trees.specs.samples.Tops.{is_top};
 ghost use Rattle.tool_types.specs.names.Meanings.{IsFound};
 ghost use Rattle.std.proofs.Props.{props};
-ghost use Rattle.tool_samples.specs.Props.{guide_prop};
+ghost use Rattle.try_construct.proofs.GuideProps.{guide_prop};
 ghost use Rattle.tool_samples.specs.Sampling.{IsPrepared};
 ghost use Rattle.tool_samples.specs.lines.Lines.{sample_line};
 ghost use Rattle.tool_commands.specs.recordings.Replaying.{ReplaysRecord, replay_turn};

@@ -2,7 +2,7 @@ ghost use Rattle.std.specs.Prelude.{◌≡◌};
 ghost use Rattle.type_trees.specs.View.{tree};
 ghost use Rattle.projection_laws.specs.Premises.{IsValid};
 ghost use Rattle.std.proofs.Props.{props};
-ghost use Rattle.tool_samples.specs.Props.{guide_prop};
+ghost use Rattle.try_construct.proofs.GuideProps.{guide_prop};
 ghost use Rattle.tool_samples.specs.Sampling.{IsPrepared};
 
 use crate::prepared::Prepared;

@@ -4,7 +4,7 @@ ghost use Rattle.xt_shapes.specs.Typing.{has_type};
 ghost use Rattle.xt_shapes.specs.Vals.{Val};
 ghost use Rattle.type_trees.specs.Bridge.{type_shape};
 ghost use Rattle.type_trees.specs.View.{tree, val};
-ghost use Rattle.settled_parts.specs.Guides.{IsGuide};
+ghost use Rattle.try_construct.specs.Guides.{IsGuide};
 ghost use Rattle.settled_parts.specs.Settling.{outcome_val};
 ghost use Rattle.projection_laws.specs.Premises.{IsValid};
 ghost use Rattle.xcdr_model.specs.KeyOctets as spec;
@@ -21,10 +21,11 @@ use crate::prepared::Prepared;
 use key_instances::octets::{key_octets, packed_key_octets};
 use key_instances::{LastValues, PutFault};
 use packed_reader::read_plain;
-use settled_parts::{Guide, Outcome};
+use settled_parts::Outcome;
 use shape_laws::{key_octets_bound, sample_typed};
 use std::alloc::Global;
 use tool_runs::output::{Cause, Halt, Refused, Stop};
+use try_construct::Guide;
 use type_rules::{is_within_limits, shape_keeps_rules};
 use type_trees::{Value, XType};
 use xcdr_samples::read_guided;
@@ -166,8 +167,8 @@ fn plain_key(alloc: Global, rep: Rep, ty: &XType, guide: &Guide, payload: &[u8])
     }
 }
 
-/// Puts the value that the reader's type makes of a sample under its key: of a plain sample a copy of the octets is kept. A sample that is discarded, must be understood or is malformed is passed over. A key too many is refused.
-/// After a stop the cache is unchanged.
+/// Puts the value that the reader's type makes of a sample under its key: of a plain sample a copy of the octets is kept. A sample that is
+/// discarded, must be understood or is malformed is passed over. A key too many is refused. After a stop the cache is unchanged.
 pub fn put_sample(
     alloc: Global,
     rep: Rep,

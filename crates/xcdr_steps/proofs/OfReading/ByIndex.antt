@@ -9,7 +9,7 @@ use Rattle.type_trees.specs.declared.types.Member as declared
 use Rattle.type_trees.specs.Bridge.{type_shape, members_shape, member_head}
 use Rattle.type_trees.proofs.Views.{member_tree_is}
 use Rattle.xcdr_model.specs.Premises.{distinct_members}
-use Rattle.settled_parts.proofs.CasesByIndex.{shifted, shifted_one, shifted_none}
+use Rattle.try_construct.proofs.CasesByIndex.{shifted, shifted_one, shifted_none}
 use Rattle.xcdr_steps.specs.reading.Indices.{index_of}
 
 pub next_shape : (ms : List declared.Member) (i : ℕ) (d : declared.Member) → i < length ms → members_shape (drop i ms) ≡ member (member_head (get_or ms i d)) (type_shape (get_or ms i d).ty) (members_shape (drop (i + 1) ms))

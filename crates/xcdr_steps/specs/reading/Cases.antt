@@ -2,7 +2,7 @@
 use Rattle.std.specs.Prelude.{ℕ, ◌<◌, ℤ, Bool, cond, not, ◌&&◌, Option, Some, None}
 use Rattle.xt_shapes.specs.Select.{select}
 use Rattle.xt_shapes.specs.Shape.{Cases}
-use Rattle.settled_parts.specs.Guides.{case_index}
+use Rattle.try_construct.specs.Guides.{case_index}
 use Rattle.xcdr_steps.specs.declared.reading.choices.Choice as declared
 use Rattle.xcdr_steps.specs.declared.reading.choices.Choice.TheVariants.{NoCase, OneSided, Missing, Case}
 

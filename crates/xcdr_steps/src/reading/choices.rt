@@ -1,10 +1,10 @@
 // Which case of a union is read.
 ghost use Rattle.std.specs.Prelude.{◌≡◌, length};
 ghost use Rattle.type_trees.specs.Bridge.{cases_shape};
-ghost use Rattle.settled_parts.specs.Guides.{TellsCases};
+ghost use Rattle.try_construct.specs.Guides.{TellsCases};
 ghost use Rattle.xcdr_steps.specs.reading.Cases.{choice, choice_with, IsInside};
 
-use settled_parts::Guide;
+use try_construct::Guide;
 use type_trees::Case;
 
 /// What stands for a union's case.

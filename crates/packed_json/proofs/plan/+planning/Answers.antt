@@ -1,6 +1,6 @@
 use Rattle.std.proofs.Common.{◌≡◌, ◌∷◌, refl, rules, Some, slice_get, get_or, List, map, subst, arith}
 use Rattle.std.proofs.lemmas.Option.{slice_get-get_or}
-use Rattle.settled_parts.specs.Guides.{Indexes}
+use Rattle.try_construct.specs.Guides.{Indexes}
 use Rattle.type_trees.specs.declared.types.Case.{Case}
 use Rattle.type_trees.specs.declared.types.UnionType.{out-UnionType}
 use Rattle.type_trees.specs.Bridge.{cases_shape}

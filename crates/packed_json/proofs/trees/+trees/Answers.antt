@@ -1,7 +1,7 @@
 use Rattle.std.proofs.Common.{◌≡◌, Some, sym, ap, ◌∙◌, map, rules}
 use Rattle.std.specs.Int.{w128}
 use Rattle.std.proofs.lemmas.Int.{to_z-of_z}
-use Rattle.settled_parts.specs.Guides.{found_at}
+use Rattle.try_construct.specs.Guides.{found_at}
 use Rattle.type_trees.specs.View.{body_val}
 use Rattle.type_trees.proofs.Views.{body_val_present}
 use Rattle.packed_json.specs.Plans.{meaning}

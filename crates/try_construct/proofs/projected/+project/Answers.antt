@@ -1,9 +1,9 @@
 use Rattle.std.proofs.Common.{◌+◌, ◌∙◌, sym, ap, subst, rules, arith, ◌≤◌, true, false, map, drop, length, Some}
 use Rattle.std.proofs.lemmas.Bool.{eq-eqb, ne_eqb}
 use Rattle.std.specs.Option.{option_map}
-use Rattle.settled_parts.specs.Members.{slots_of, and_slot, slots_then}
+use Rattle.try_construct.specs.Members.{slots_of, and_slot, slots_then}
 use Rattle.settled_parts.specs.Parts.{part_of}
-use Rattle.settled_parts.specs.Unions.{case_of}
+use Rattle.try_construct.specs.Unions.{case_of}
 use Rattle.try_construct.specs.Found.{IsAt, IsFound}
 use Rattle.try_construct.specs.Steps.{items_built, entries_built, structure_built, union_built, member_built, one_case_built, parts_built}
 use Rattle.try_construct.proofs.FoundSteps.{sound_at, sound_step, sound_case_step, found_absent, found_at, lacks_part, slots_step, structure_starts}

@@ -1,7 +1,7 @@
 use Rattle.std.proofs.Common.{◌≡◌, drop, map, true, false}
-use Rattle.settled_parts.specs.Entries.{entries_of, entries_then}
-use Rattle.settled_parts.specs.Items.{items_of, items_then}
-use Rattle.settled_parts.specs.Members.{slots_of, slots_then}
+use Rattle.try_construct.specs.Entries.{entries_of, entries_then}
+use Rattle.try_construct.specs.Items.{items_of, items_then}
+use Rattle.try_construct.specs.Members.{slots_of, slots_then}
 use Rattle.try_construct.specs.Steps.{items_built, entries_built, parts_built}
 use Rattle.type_trees.specs.Bridge.{type_shape, members_shape, cases_shape}
 use Rattle.type_trees.specs.Parts.{map_parts}

@@ -3,8 +3,8 @@ use Rattle.std.proofs.lemmas.Result.{err_from_is_err_and}
 use Rattle.xt_shapes.specs.Defaults.{default_of}
 use Rattle.xt_shapes.specs.Shape.{prim}
 use Rattle.type_trees.specs.Bridge.{type_shape}
-use Rattle.settled_parts.specs.Items as items
-use Rattle.settled_parts.specs.Items.{items_of, items_then}
+use Rattle.try_construct.specs.Items as items
+use Rattle.try_construct.specs.Items.{items_of, items_then}
 use Rattle.settled_parts.specs.Parts.{part_of}
 use Rattle.xt_wire.proofs.OfCursor.Ahead.{goes_on, fails, ends}
 use Rattle.xcdr_reader.specs.Blocks.{block_read}

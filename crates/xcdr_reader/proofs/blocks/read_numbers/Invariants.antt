@@ -2,7 +2,7 @@ use Rattle.std.proofs.Common.{◌≤◌, ◌-◌}
 use Rattle.std.specs.Prelude.{Some}
 use Rattle.xt_shapes.specs.Defaults.{default_of}
 use Rattle.type_trees.specs.Bridge.{type_shape}
-use Rattle.settled_parts.specs.Items.{items_of}
+use Rattle.try_construct.specs.Items.{items_of}
 use Rattle.xt_wire.proofs.OfCursor.Ahead.{Ahead}
 use Rattle.xcdr_reader.specs.Parts.{items_read}
 use Rattle.xcdr_reader.proofs.InBlocks.{numbers_then}

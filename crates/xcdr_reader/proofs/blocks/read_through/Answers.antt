@@ -8,8 +8,8 @@ use Rattle.xt_shapes.specs.Sizes.{size}
 use Rattle.xt_shapes.specs.Vals.{Val}
 use Rattle.type_trees.specs.Bridge.{type_shape}
 use Rattle.xcdr_model.specs.Reading.{Spot, Reading, ◌>>=◌, octets_at}
-use Rattle.settled_parts.specs.Gathering.{Gathered}
-use Rattle.settled_parts.specs.Items.{items_of}
+use Rattle.try_construct.specs.Gathering.{Gathered}
+use Rattle.try_construct.specs.Items.{items_of}
 use Rattle.xt_wire.specs.cursor.Standing.{Standing}
 use Rattle.xt_wire.proofs.OfCursor.Ahead.{Ahead, begins, goes_on, fails, ends}
 use Rattle.xcdr_reader.specs.Blocks.{and_numbers, block_read}

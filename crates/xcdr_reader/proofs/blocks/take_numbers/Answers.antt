@@ -3,7 +3,7 @@ use Rattle.std.specs.Int.{w128}
 use Rattle.xt_shapes.specs.Defaults.{default_of}
 use Rattle.xt_shapes.specs.Sizes.{size}
 use Rattle.type_trees.specs.Bridge.{type_shape}
-use Rattle.settled_parts.specs.Items.{items_of}
+use Rattle.try_construct.specs.Items.{items_of}
 use Rattle.xt_shapes.specs.Vals.{int}
 use Rattle.xcdr_model.specs.Projection.{got}
 use Rattle.xcdr_reader.proofs.InBlocks.{numbers_more}

@@ -2,7 +2,7 @@ use Rattle.std.proofs.Common.{◌≡◌, ◌-◌, ◌*◌, length}
 use Rattle.xt_shapes.specs.Defaults.{default_of}
 use Rattle.xt_shapes.specs.Sizes.{size}
 use Rattle.type_trees.specs.Bridge.{type_shape}
-use Rattle.settled_parts.specs.Items.{items_of}
+use Rattle.try_construct.specs.Items.{items_of}
 use Rattle.xcdr_reader.specs.Blocks.{and_numbers}
 use Rattle.xcdr_reader.proofs.blocks.take_numbers.Given as goal
 

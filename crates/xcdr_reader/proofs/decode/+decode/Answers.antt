@@ -18,12 +18,12 @@ use Rattle.xcdr_model.specs.Reading.{Spot, Reading, fault_at, number_at, filling
 use Rattle.xcdr_model.specs.Xcdr1Reading.{read1, is_open}
 use Rattle.xcdr_model.specs.Xcdr2Reading.{read, scalar_at}
 use Rattle.settled_parts.specs.Parts.{part_of}
-use Rattle.settled_parts.specs.Unions.{case_of}
-use Rattle.settled_parts.specs.Items as items
-use Rattle.settled_parts.specs.Items.{items_of, items_then, and_item}
-use Rattle.settled_parts.specs.Entries as entries
-use Rattle.settled_parts.specs.Entries.{entries_of, entries_then, and_entry}
-use Rattle.settled_parts.specs.Members.{slots_of, and_slot, structure_of}
+use Rattle.try_construct.specs.Unions.{case_of}
+use Rattle.try_construct.specs.Items as items
+use Rattle.try_construct.specs.Items.{items_of, items_then, and_item}
+use Rattle.try_construct.specs.Entries as entries
+use Rattle.try_construct.specs.Entries.{entries_of, entries_then, and_entry}
+use Rattle.try_construct.specs.Members.{slots_of, and_slot, structure_of}
 use Rattle.xt_wire.specs.declared.cursor.faults.DecodeFault.{DecodeFault}
 use Rattle.xt_wire.specs.cursor.Standing.{Standing}
 use Rattle.xt_wire.specs.cursor.Decoding.{Decodes}

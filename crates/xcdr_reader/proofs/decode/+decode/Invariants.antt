@@ -1,9 +1,9 @@
 use Rattle.std.proofs.Common.{◌-◌}
 use Rattle.type_trees.specs.Bridge.{type_shape, members_shape}
 use Rattle.xt_shapes.specs.Defaults.{default_of}
-use Rattle.settled_parts.specs.Items.{items_of, items_then}
-use Rattle.settled_parts.specs.Entries.{entries_of}
-use Rattle.settled_parts.specs.Members.{slots_of}
+use Rattle.try_construct.specs.Items.{items_of, items_then}
+use Rattle.try_construct.specs.Entries.{entries_of}
+use Rattle.try_construct.specs.Members.{slots_of}
 use Rattle.xt_wire.proofs.OfCursor.Ahead.{Ahead}
 use Rattle.xcdr_reader.specs.Insides.{members_read}
 use Rattle.xcdr_reader.specs.Members.{Pieces, Holds, pieces_then, mutable_read}

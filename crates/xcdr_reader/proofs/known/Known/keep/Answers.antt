@@ -2,8 +2,8 @@ use Rattle.std.proofs.Common.{◌∙◌, ap, sym, Some}
 use Rattle.type_trees.specs.declared.types.Member.{Member}
 use Rattle.type_trees.specs.Bridge.{members_shape, type_shape, member_head}
 use Rattle.settled_parts.specs.Parts.{part_of}
-use Rattle.settled_parts.specs.Members.{by_member, and_slot_at}
-use Rattle.settled_parts.proofs.GatherSteps.{or_false}
+use Rattle.try_construct.specs.Members.{by_member, and_slot_at}
+use Rattle.try_construct.proofs.GatherSteps.{or_false}
 use Rattle.xcdr_reader.proofs.Indexed.{indexed}
 use Rattle.xcdr_reader.proofs.PieceSteps.{kept_slots}
 use Rattle.xcdr_reader.proofs.known.Known.keep.Goals as goal

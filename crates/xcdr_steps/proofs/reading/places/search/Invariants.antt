@@ -1,7 +1,7 @@
 use Rattle.std.proofs.Common.{◌≡◌, drop}
 use Rattle.type_trees.specs.Bridge.{members_shape}
 use Rattle.xcdr_steps.specs.reading.Indices.{index_of}
-use Rattle.settled_parts.proofs.CasesByIndex.{shifted}
+use Rattle.try_construct.proofs.CasesByIndex.{shifted}
 use Rattle.xcdr_steps.proofs.reading.places.search.Given as goal
 
 abbrev pub invariant-loop-at : goal.invariant-loop-at

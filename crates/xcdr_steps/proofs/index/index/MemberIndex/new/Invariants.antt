@@ -3,7 +3,7 @@ use Rattle.std.specs.BTreeMap.{get}
 use Rattle.std.specs.Ordering.{nat_cmp}
 use Rattle.type_trees.specs.Bridge.{members_shape}
 use Rattle.xcdr_steps.specs.reading.Indices.{index_of}
-use Rattle.settled_parts.proofs.CasesByIndex.{shifted}
+use Rattle.try_construct.proofs.CasesByIndex.{shifted}
 use Rattle.xcdr_steps.proofs.index.index.MemberIndex.new.Given as goal
 
 -- the members from there on are held

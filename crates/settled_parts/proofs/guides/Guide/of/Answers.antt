@@ -1,6 +1,0 @@
-use Rattle.type_trees.specs.Bridge.{type_shape}
-use Rattle.settled_parts.proofs.GuideSteps.{nothing_guides}
-use Rattle.settled_parts.proofs.guides.Guide.of.Goals as goal
-
-pub returns-in-Err : goal.returns-in-Err
-returns-in-Err c = nothing_guides (type_shape c.args.ty.now) c.nothing.result c.nothing.ensures
