@@ -21,6 +21,7 @@ use Rattle.type_trees.specs.Bridge.{cases_shape}
 use Rattle.type_trees.proofs.Views.{case_tree_is, union_tree_is}
 use Rattle.try_construct.specs.declared.guides.CaseIndex.{CaseIndex}
 use Rattle.try_construct.specs.Guides.{Indexes, case_index, found_at}
+use Rattle.try_construct.proofs.CasesByIndex.{Selects, index_finds, number_selects}
 use Rattle.json_values.specs.Written.{data_of, body_data, case_data, value_key, json_text}
 use Rattle.packed_json.specs.declared.plan.Plan.{Plan}
 use Rattle.packed_json.specs.Plans.{Meaning, meaning, IsPlanOf, PlansCases, WritesBody, body_text, body_fits, found_case, union_meaning}
@@ -81,18 +82,18 @@ present_is cs ms id v p None planned position there fits = absurd cc
 present_is cs ms id v None (Some m) planned position there fits = absurd cc
 present_is cs ms id v (Some at) (Some m) planned position there fits = rw (case_is cs ms id at m v planned position there fits) refl
 
-body_by : (cs : List Case) (ms : List Meaning) (index : CaseIndex) (s : Option ℕ) (b : Slot) → Indexes (cases_shape cs) index → PlansCases cs ms → body_fits (option_and_then (slice_get ms) (option_and_then (get nat_cmp index.positions) s)) b ≡ true
-    → body_text (option_and_then (slice_get ms) (option_and_then (get nat_cmp index.positions) s)) b ≡ members_text true (body_data s (case_data (cases_tree cs)) b)
-body_by cs ms index None absent is planned fits = refl
-body_by cs ms index None (present v) is planned fits = absurd cc
-body_by cs ms index (Some id) absent is planned fits = refl
-body_by cs ms index (Some id) (present v) is planned fits = present_is cs ms id v (get nat_cmp index.positions id) _ planned (sym (is.positions id)) refl fits
+body_by : (cs : List Case) (ms : List Meaning) (s p : Option ℕ) (b : Slot) → Selects (cases_shape cs) s p → PlansCases cs ms → body_fits (option_and_then (slice_get ms) p) b ≡ true
+    → body_text (option_and_then (slice_get ms) p) b ≡ members_text true (body_data s (case_data (cases_tree cs)) b)
+body_by cs ms None p absent is planned fits = refl
+body_by cs ms None p (present v) is planned fits = (let none : body_fits None (present v) ≡ true = rw is at fits in absurd cc)
+body_by cs ms (Some id) p absent is planned fits = refl
+body_by cs ms (Some id) p (present v) (at, (index, is)) planned fits = present_is cs ms id v p _ planned (index ∙ sym is) refl fits
 
 body_is : (cs : List Case) (ms : List Meaning) (index : CaseIndex) (n : ℤ) (b : Slot) → Indexes (cases_shape cs) index → PlansCases cs ms → body_fits (found_case index ms n) b ≡ true
     → body_text (found_case index ms n) b ≡ members_text true (body_data (select (cases_shape cs) n) (case_data (cases_tree cs)) b)
 body_is cs ms index n b is planned fits =
-    let same : or_else (get int_cmp index.ids n) index.default ≡ select (cases_shape cs) n = ap₂ or_else (is.ids n) is.default in
-    body_by cs ms index (or_else (get int_cmp index.ids n) index.default) b is planned fits ∙ ap (λ s. members_text true (body_data s (case_data (cases_tree cs)) b)) same
+    let same : Selects (cases_shape cs) (select (cases_shape cs) n) (found_at index n) = rw (index_finds (cases_shape cs) index n is) (number_selects (cases_shape cs) n) in
+    body_by cs ms (select (cases_shape cs) n) (found_at index n) b same planned fits
 
 -- ---- a whole union
 

@@ -1,11 +1,11 @@
 -- What a guide knows of a type: its literals by their values, its cases by their labels, and the same of its parts (this profile's own).
 use Rattle.std.specs.Prelude.{◌≡◌, ℕ, suc, ◌+◌, ◌<◌, ℤ, length, List, [], Option, Some, None, cond, ◌==◌, get_or}
 use Rattle.std.specs.Option.{option_map, option_and_then}
-use Rattle.std.specs.BTreeMap.{get}
+use Rattle.std.specs.BTreeMap.{BTreeMap, get}
 use Rattle.std.specs.BTreeSet.{BTreeSet, contains}
 use Rattle.std.specs.Ordering.{int_cmp, nat_cmp}
 use Rattle.xt_shapes.specs.Lists.{or_else}
-use Rattle.xt_shapes.specs.Select.{is_literal, labelled, default_case}
+use Rattle.xt_shapes.specs.Select.{is_literal, labelled, default_case, select}
 use Rattle.xt_shapes.specs.Shape.{Literal, Shape, prim, str, enumeration, bitmask, sequence, array, map_of, structure, union, Members, no_members, member, Cases, no_cases, one_case}
 use Rattle.type_trees.specs.declared.types.Case.{Case}
 use Rattle.type_trees.specs.Bridge.{type_shape}
@@ -23,19 +23,22 @@ case_index (one_case h t cs) id = cond (h.id == id) (Some 0) (option_map (λ i. 
 abbrev pub HasValues : List Literal → BTreeSet ℤ → Type 0
 HasValues ls values = (n : ℤ) → contains int_cmp values n ≡ is_literal ls n
 
--- an index has the cases of a union: their ids by their labels, the default case's id, and their positions by their ids
+-- the positions of cases by their ids
+abbrev pub IsPlaces : Cases → BTreeMap ℕ ℕ → Type 0
+IsPlaces cs places = (id : ℕ) → get nat_cmp places id ≡ case_index cs id
+
+-- the position of the case that a number selects
+abbrev pub selected_index : Cases → ℤ → Option ℕ
+selected_index cs n = option_and_then (case_index cs) (select cs n)
+
+-- an index has the positions of a union's cases: by their labels, and the default case's
 pub record Indexes (cs : Cases) (index : CaseIndex) : Type 0 where
-  pub ids : (n : ℤ) → get int_cmp index.ids n ≡ labelled cs n
-  pub default : index.default ≡ default_case cs
-  pub positions : (id : ℕ) → get nat_cmp index.positions id ≡ case_index cs id
+  pub labels : (n : ℤ) → get int_cmp index.labels n ≡ option_and_then (case_index cs) (labelled cs n)
+  pub default : index.default ≡ option_and_then (case_index cs) (default_case cs)
 
--- the id of the case that a number selects, as an index has it
-abbrev pub selected : CaseIndex → ℤ → Option ℕ
-selected index n = or_else (get int_cmp index.ids n) index.default
-
--- and its position
+-- the position of the case that a number selects, as an index has it
 abbrev pub found_at : CaseIndex → ℤ → Option ℕ
-found_at index n = option_and_then (get nat_cmp index.positions) (selected index n)
+found_at index n = or_else (get int_cmp index.labels n) index.default
 
 abbrev pub knows_literals : List Literal → Known → Type 0
 knows_literals ls (known.Literals values) = HasValues ls values

@@ -1,7 +1,5 @@
 //! What is known of a type beforehand: its literals by their values and its cases by their labels, so that each is found in few steps.
 ghost use Rattle.std.specs.Prelude.{◌≡◌, ◌<◌, cond, false, length, map, IfSome};
-ghost use Rattle.std.specs.BTreeMap.{get};
-ghost use Rattle.std.specs.Ordering.{nat_cmp};
 ghost use Rattle.xt_shapes.specs.Select as shapes;
 ghost use Rattle.xt_shapes.specs.Vals.{int};
 ghost use Rattle.type_trees.specs.Bridge.{literal_shape, type_shape, cases_shape};
@@ -16,42 +14,21 @@ use std::collections::{BTreeMap, BTreeSet};
 use type_trees::{Case, Literal, XType, as_enum, select};
 use xt_lists::Row;
 
-/// The cases of a union: their ids by their labels, the default case's id, and their positions by their ids.
+/// The positions of a union's cases: by their labels, and the default case's.
 #[derive(Debug, Drop)]
 pub struct CaseIndex {
-    pub(crate) ids: BTreeMap<i128, u32>,
-    pub(crate) default: Option<u32>,
-    pub(crate) positions: BTreeMap<u32, usize>,
+    pub(crate) labels: BTreeMap<i128, usize>,
+    pub(crate) default: Option<usize>,
 }
 
 impl CaseIndex {
-    /// The id of the case that the discriminator's `number` selects. It takes any number, value of the discriminator or not.
-    pub fn select(&self, number: i128) -> Option<u32>
-        ensures { result ≡ spec.selected self.now number }
-    {
-        match self.ids.get(&number) {
-            Some(id) => Some(*id),
-            None => self.default,
-        }
-    }
-
-    /// The position of the first case with that id.
-    pub fn position(&self, id: u32) -> Option<usize>
-        ensures { result ≡ get nat_cmp self.now.positions id }
-    {
-        match self.positions.get(&id) {
-            Some(at) => Some(*at),
-            None => None,
-        }
-    }
-
-    /// The position of the case that the discriminator's `number` selects.
+    /// The position of the case that the discriminator's `number` selects. It takes any number, value of the discriminator or not.
     pub fn find(&self, number: i128) -> Option<usize>
         ensures { result ≡ spec.found_at self.now number }
     {
-        match self.select(number) {
-            Some(id) => self.position(id),
-            None => None,
+        match self.labels.get(&number) {
+            Some(at) => Some(*at),
+            None => self.default,
         }
     }
 }
@@ -76,8 +53,9 @@ pub struct Guide {
     pub(crate) parts: Row<Guide>,
 }
 
+// The position of the first case with that id.
 #[tactic(auto, using(crate::proofs::CasesByIndex::index_rules))]
-fn find_case(cases: &[Case], id: u32) -> Option<usize>
+pub(crate) fn find_case(cases: &[Case], id: u32) -> Option<usize>
     ensures { result ≡ spec.case_index (cases_shape cases.now) id }
 {
     for (at, case) in cases.iter().enumerate() {
@@ -86,6 +64,16 @@ fn find_case(cases: &[Case], id: u32) -> Option<usize>
         }
     }
     None
+}
+
+// The position of the case that the number selects.
+fn find_selected(cases: &[Case], number: i128) -> Option<usize>
+    ensures { result ≡ spec.selected_index (cases_shape cases.now) number }
+{
+    match select(cases, number) {
+        Some(id) => find_case(cases, id),
+        None => None,
+    }
 }
 
 impl Guide {
@@ -150,26 +138,15 @@ impl Guide {
         }
     }
 
-    /// The id of the case that the discriminator's `number` selects. It takes any number, value of the discriminator or not.
-    pub fn select(&self, cases: &[Case], number: i128) -> Option<u32>
+    /// The position of the case that the discriminator's `number` selects. It takes any number, value of the discriminator or not.
+    pub fn find(&self, cases: &[Case], number: i128) -> Option<usize>
         requires { TellsCases (cases_shape cases.now) self.now }
-        ensures { result ≡ shapes.select (cases_shape cases.now) number }
-    {
-        match &self.known {
-            Known::Cases(index) => index.select(number),
-            Known::Nothing | Known::Literals(_) => select(cases, number),
-        }
-    }
-
-    /// The position of the first case with that id.
-    pub fn position(&self, cases: &[Case], id: u32) -> Option<usize>
-        requires { TellsCases (cases_shape cases.now) self.now }
-        ensures position { result ≡ spec.case_index (cases_shape cases.now) id }
+        ensures position { result ≡ spec.selected_index (cases_shape cases.now) number }
         ensures within { IfSome result (λ at. at < length cases.now) }
     {
         match &self.known {
-            Known::Cases(index) => index.position(id),
-            Known::Nothing | Known::Literals(_) => find_case(cases, id),
+            Known::Cases(index) => index.find(number),
+            Known::Nothing | Known::Literals(_) => find_selected(cases, number),
         }
     }
 }

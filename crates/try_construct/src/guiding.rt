@@ -1,5 +1,5 @@
 //! How a guide is made of a type.
-ghost use Rattle.std.specs.Prelude.{◌≡◌, ℕ, ℤ, cond, IfOk, Some, length, map};
+ghost use Rattle.std.specs.Prelude.{◌≡◌, ℤ, cond, IfOk, Some, map, option_and_then};
 ghost use Rattle.std.specs.BTreeMap.{get};
 ghost use Rattle.std.specs.Ordering.{int_cmp, int_eq, nat_cmp};
 ghost use Rattle.xt_shapes.specs.Lists.{has};
@@ -8,7 +8,7 @@ ghost use Rattle.type_trees.specs.Bridge.{literal_shape, shape, type_shape, case
 ghost use Rattle.type_trees.specs.View.{union_tree};
 ghost use Rattle.type_trees.specs.declared.types.MapType.{out-MapType};
 ghost use Rattle.type_trees.specs.declared.types.UnionType.{out-UnionType};
-ghost use Rattle.try_construct.specs.Guides.{HasValues, HasUnionGuides, Indexes, IsGuide, AreGuides, TellsLiterals, case_index, knows_cases, part_at};
+ghost use Rattle.try_construct.specs.Guides.{HasValues, HasUnionGuides, Indexes, IsGuide, AreGuides, TellsLiterals, IsPlaces, case_index, knows_cases, part_at};
 
 use crate::guides::{CaseIndex, Guide, Known};
 use std::alloc::Global;
@@ -46,47 +46,78 @@ fn enum_guide(alloc: Global, kind: &EnumType) -> Result<Guide, OutOfMemory>
     })
 }
 
-// The labels select the case with that id, whatever was selected before.
-fn add_labels(labels: &[i32], id: u32, ids: &mut BTreeMap<i128, u32>) -> Result<(), OutOfMemory>
-    ensures { IfOk result (λ u. (n : ℤ) → get int_cmp ids.new n ≡ cond (has (int_eq n) labels.now) (Some id) (get int_cmp ids.old n)) }
+// The positions of cases by their ids.
+#[tactic(auto, using(crate::proofs::CasesByIndex::index_rules))]
+fn places_of(alloc: Global, cases: &[Case]) -> Result<BTreeMap<u32, usize>, OutOfMemory>
+    ensures { IfOk result (IsPlaces (cases_shape cases.now)) }
 {
-    let mut at = labels.len();
-    'labels: while at > 0 {
+    let mut places = BTreeMap::new(alloc);
+    let mut at = cases.len();
+    // from the last, so that the first case with an id is kept
+    'cases: while at > 0 {
         at -= 1;
-        ids.insert(i128::from(labels[at]), id)?;
+        places.insert(cases[at].id, at)?;
+    }
+    Ok(places)
+}
+
+// The position of a case by its id.
+fn place_in(places: &BTreeMap<u32, usize>, id: u32) -> Option<usize>
+    ensures { result ≡ get nat_cmp places.now id }
+{
+    match places.get(&id) {
+        Some(at) => Some(*at),
+        None => None,
+    }
+}
+
+// The labels select the case at that position, whatever was selected before.
+fn add_labels(
+    found: &[i32],
+    at: usize,
+    labels: &mut BTreeMap<i128, usize>,
+) -> Result<(), OutOfMemory>
+    ensures { IfOk result (λ u. (n : ℤ) → get int_cmp labels.new n ≡ cond (has (int_eq n) found.now) (Some at) (get int_cmp labels.old n)) }
+{
+    let mut left = found.len();
+    'labels: while left > 0 {
+        left -= 1;
+        labels.insert(i128::from(found[left]), at)?;
     }
     Ok(())
 }
 
-// The ids of cases by their labels.
+// The positions of cases by their labels, given those by their ids.
 #[tactic(auto, using(type_trees::proofs::Views::tree_rules))]
-fn ids_of(alloc: Global, cases: &[Case]) -> Result<BTreeMap<i128, u32>, OutOfMemory>
-    ensures { IfOk result (λ ids. (n : ℤ) → get int_cmp ids n ≡ shapes.labelled (cases_shape cases.now) n) }
+fn labels_of(
+    alloc: Global,
+    cases: &[Case],
+    places: &BTreeMap<u32, usize>,
+) -> Result<BTreeMap<i128, usize>, OutOfMemory>
+    requires { IsPlaces (cases_shape cases.now) places.now }
+    ensures { IfOk result (λ labels. (n : ℤ) → get int_cmp labels n ≡ option_and_then (case_index (cases_shape cases.now)) (shapes.labelled (cases_shape cases.now) n)) }
 {
-    let mut ids = BTreeMap::new(alloc);
+    let mut labels = BTreeMap::new(alloc);
     let mut at = cases.len();
     // from the last, so that the first case with a label is kept
     'cases: while at > 0 {
         at -= 1;
         let case = &cases[at];
-        add_labels(case.labels.as_slice(), case.id, &mut ids)?;
+        let first = place_in(places, case.id).unwrap();
+        add_labels(case.labels.as_slice(), first, &mut labels)?;
     }
-    Ok(ids)
+    Ok(labels)
 }
 
-// The positions of cases by their ids.
-#[tactic(auto, using(crate::proofs::CasesByIndex::index_rules))]
-fn positions_of(alloc: Global, cases: &[Case]) -> Result<BTreeMap<u32, usize>, OutOfMemory>
-    ensures { IfOk result (λ positions. (id : ℕ) → get nat_cmp positions id ≡ case_index (cases_shape cases.now) id) }
+// The position of the default case.
+fn default_of(cases: &[Case], places: &BTreeMap<u32, usize>) -> Option<usize>
+    requires { IsPlaces (cases_shape cases.now) places.now }
+    ensures { result ≡ option_and_then (case_index (cases_shape cases.now)) (shapes.default_case (cases_shape cases.now)) }
 {
-    let mut positions = BTreeMap::new(alloc);
-    let mut at = cases.len();
-    // from the last, so that the first case with an id is kept
-    'cases: while at > 0 {
-        at -= 1;
-        positions.insert(cases[at].id, at)?;
+    match default_case(cases) {
+        Some(id) => place_in(places, id),
+        None => None,
     }
-    Ok(positions)
 }
 
 impl CaseIndex {
@@ -94,13 +125,10 @@ impl CaseIndex {
     pub fn of(alloc: Global, cases: &[Case]) -> Result<CaseIndex, OutOfMemory>
         ensures { IfOk result (Indexes (cases_shape cases.now)) }
     {
-        let ids = ids_of(alloc, cases)?;
-        let positions = positions_of(alloc, cases)?;
-        Ok(CaseIndex {
-            ids,
-            default: default_case(cases),
-            positions,
-        })
+        let places = places_of(alloc, cases)?;
+        let labels = labels_of(alloc, cases, &places)?;
+        let default = default_of(cases, &places);
+        Ok(CaseIndex { labels, default })
     }
 }
 

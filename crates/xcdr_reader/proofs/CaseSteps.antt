@@ -17,9 +17,10 @@ use Rattle.xt_wire.specs.cursor.Standing.{Standing, Stands}
 use Rattle.xt_wire.specs.cursor.Decoding.{spot}
 use Rattle.xt_wire.proofs.OfCursor.Ahead.{Ahead, begins, rephrased, ended_is}
 use Rattle.xcdr_steps.specs.declared.reading.choices.Choice.{Choice}
-use Rattle.xcdr_steps.specs.declared.reading.choices.Choice.TheVariants.{NoCase, OneSided, Missing, Case}
-use Rattle.try_construct.specs.Guides.{case_index}
-use Rattle.xcdr_steps.specs.reading.Cases.{indexed, choice_with, choice_of, choice}
+use Rattle.xcdr_steps.specs.declared.reading.choices.Choice.TheVariants.{NoCase, OneSided, Case}
+use Rattle.try_construct.specs.Guides.{case_index, selected_index}
+use Rattle.try_construct.proofs.CasesByIndex.{Selects, number_selects}
+use Rattle.xcdr_steps.specs.reading.Cases.{choice_of, choice}
 use Rattle.xcdr_reader.specs.declared.modes.Mode.{Mode}
 use Rattle.xcdr_reader.specs.declared.modes.Mode.TheVariants.{Two, Inner, Tail}
 use Rattle.xcdr_reader.specs.Modes.{read_in, most, fills, to_end}
@@ -36,17 +37,16 @@ abbrev of_case : Mode → Bool → Option (CaseHead × Shape) → Order → Spot
 of_case m filled None o s = fault_at s.at Short
 of_case m filled (Some x) o s = body_read m filled x.0 x.1 o s
 
-abbrev by_index : Mode → Bool → Cases → Option ℕ → Order → Spot → Reading (Body × Bool)
-by_index m filled cs None o s = fault_at s.at Short
-by_index m filled cs (Some i) o s = of_case m filled (case_at cs i) o s
+abbrev by_index : Mode → Cases → Option ℕ → Order → Spot → Reading (Body × Bool)
+by_index m cs None o s = fault_at s.at Short
+by_index m cs (Some i) o s = of_case m false (case_at cs i) o s
 
 abbrev pub by_choice : Mode → Bool → Cases → Choice → Order → Spot → Reading (Body × Bool)
 by_choice m filled cs NoCase o s = Ok ((no_body, false), s)
 by_choice m filled cs OneSided o s = to_end m (one_sided, false) s
-by_choice m filled cs Missing o s = fault_at s.at Short
 by_choice m filled cs (Case i) o s = of_case m filled (case_at cs i) o s
 
-later_index : (m : Mode) (h : CaseHead) (t : Shape) (cs : Cases) (x : Option ℕ) (o : Order) (s : Spot) → by_index m false cs x o s ≡ by_index m false (one_case h t cs) (option_map (λ i. suc i) x) o s
+later_index : (m : Mode) (h : CaseHead) (t : Shape) (cs : Cases) (x : Option ℕ) (o : Order) (s : Spot) → by_index m cs x o s ≡ by_index m (one_case h t cs) (option_map (λ i. suc i) x) o s
 later_index m h t cs None o s = refl
 later_index m h t cs (Some i) o s = refl
 
@@ -63,36 +63,28 @@ case_none Two o id s = refl
 case_none Inner o id s = refl
 case_none Tail o id s = refl
 
-found : (m : Mode) (cs : Cases) (id : ℕ) (o : Order) (s : Spot) → case_named m o cs id s ≡ by_index m false cs (case_index cs id) o s
+found : (m : Mode) (cs : Cases) (id : ℕ) (o : Order) (s : Spot) → case_named m o cs id s ≡ by_index m cs (case_index cs id) o s
 found m no_cases id o s = case_none m o id s
 found m (one_case h t cs) id o s = case_more m o h t cs id s ∙ by_test (h.id == id) (found m cs id o s)
   where
-    by_test : (b : Bool) → case_named m o cs id s ≡ by_index m false cs (case_index cs id) o s → cond b (done (λ x. settled_case h t x) (read_in m o t s)) (case_named m o cs id s) ≡ by_index m false (one_case h t cs) (cond b (Some 0) (option_map (λ i. suc i) (case_index cs id))) o s
+    by_test : (b : Bool) → case_named m o cs id s ≡ by_index m cs (case_index cs id) o s → cond b (done (λ x. settled_case h t x) (read_in m o t s)) (case_named m o cs id s) ≡ by_index m (one_case h t cs) (cond b (Some 0) (option_map (λ i. suc i) (case_index cs id))) o s
     by_test true more = refl
     by_test false more = more ∙ later_index m h t cs (case_index cs id) o s
 
-index_choice : (m : Mode) (filled : Bool) (cs : Cases) (x : Option ℕ) (o : Order) (s : Spot) → by_index m filled cs x o s ≡ by_choice m filled cs (indexed x) o s
-index_choice m filled cs None o s = refl
-index_choice m filled cs (Some i) o s = refl
+at_index : (m : Mode) (cs : Cases) (id i : ℕ) (o : Order) (s : Spot) → case_index cs id ≡ Some i → case_named m o cs id s ≡ of_case m false (case_at cs i) o s
+at_index m cs id i o s is = found m cs id o s ∙ ap (λ x. by_index m cs x o s) is
 
 -- ---- in XCDR2: a case that has the rest of its region uses it up
 
-filled_fault : (n : ℕ) (s : Spot) → filling n (λ s2. fault_at {A = (Body × Bool) × Spot} s2.at Short) s ≡ fault_at s.at Short
-unfolding filling ◌>>=◌
-filled_fault n s = refl
-
 filled_case : (x : Option (CaseHead × Shape)) (o : Order) (s : Spot) → filling (length s.rest) (λ s2. of_case Two false x o s2) s ≡ of_case Two true x o s
-filled_case None o s = filled_fault (length s.rest) s
+unfolding filling ◌>>=◌
+filled_case None o s = refl
 filled_case (Some x) o s = sym (done_filling (λ y. settled_case x.0 x.1 y) (length s.rest) (λ s1. read o x.1 s1) s)
 
-filled_index : (cs : Cases) (x : Option ℕ) (o : Order) (s : Spot) → filling (length s.rest) (λ s2. by_index Two false cs x o s2) s ≡ by_index Two true cs x o s
-filled_index cs None o s = filled_fault (length s.rest) s
-filled_index cs (Some i) o s = filled_case (case_at cs i) o s
-
-case_filled : (cs : Cases) (i : ℕ) (o : Order) (s : Spot) → filling (length s.rest) (λ s2. read_case o cs i s2) s ≡ by_choice Two true cs (choice_with cs i) o s
-case_filled cs i o s =
-    same_filling (length s.rest) (λ s2. read_case o cs i s2) (λ s2. by_index Two false cs (case_index cs i) o s2) s (found Two cs i o _)
-    ∙ filled_index cs (case_index cs i) o s ∙ index_choice Two true cs (case_index cs i) o s
+case_filled : (cs : Cases) (id i : ℕ) (o : Order) (s : Spot) → case_index cs id ≡ Some i → filling (length s.rest) (λ s2. read_case o cs id s2) s ≡ of_case Two true (case_at cs i) o s
+case_filled cs id i o s is =
+    same_filling (length s.rest) (λ s2. read_case o cs id s2) (λ s2. of_case Two false (case_at cs i) o s2) s (at_index Two cs id i o _ is)
+    ∙ filled_case (case_at cs i) o s
 
 -- ---- in XCDR1: what is left of the region is passed over
 
@@ -104,35 +96,31 @@ own_case : (m : Mode) (x : Option (CaseHead × Shape)) (o : Order) (s : Spot) �
 own_case m None o s e = refl
 own_case m (Some x) o s e = rw e refl
 
-own_index : (m : Mode) (cs : Cases) (x : Option ℕ) (o : Order) (s : Spot) → fills m ≡ false → by_index m false cs x o s ≡ by_index m true cs x o s
-own_index m cs None o s e = refl
-own_index m cs (Some i) o s e = own_case m (case_at cs i) o s e
-
-own_selected : (m : Mode) (filled ended : Bool) (cs : Cases) (x : Option ℕ) (o : Order) (s : Spot) → fills m ≡ false → ((y : Body × Bool) → to_end m y s ≡ at_end_of y s) → (length s.rest == 0) ≡ ended
-    → case_read filled x (λ i s1. case_named m o cs i s1) s ≡ by_choice m filled cs (choice_of filled ended cs x) o s
-own_selected m false ended cs None o s plain end e = refl
-own_selected m false ended cs (Some i) o s plain end e = found m cs i o s ∙ index_choice m false cs (case_index cs i) o s
-own_selected m true true cs None o s plain end e = rw e (ended_spot (no_body, false) s.at s.rest e)
-own_selected m true false cs None o s plain end e = rw e (sym (end (one_sided, false)))
-own_selected m true true cs (Some i) o s plain end e = rw e (sym (end (one_sided, false) ∙ ended_spot (one_sided, false) s.at s.rest e))
-own_selected m true false cs (Some i) o s plain end e = rw e (found m cs i o s ∙ own_index m cs (case_index cs i) o s plain ∙ index_choice m true cs (case_index cs i) o s)
+own_selected : (m : Mode) (filled ended : Bool) (cs : Cases) (x p : Option ℕ) (o : Order) (s : Spot) → Selects cs x p → fills m ≡ false → ((y : Body × Bool) → to_end m y s ≡ at_end_of y s) → (length s.rest == 0) ≡ ended
+    → case_read filled x (λ id s1. case_named m o cs id s1) s ≡ by_choice m filled cs (choice_of filled ended p) o s
+own_selected m false ended cs None p o s is plain end e = rw is refl
+own_selected m false ended cs (Some id) p o s (i, (at, is)) plain end e = rw is (at_index m cs id i o s at)
+own_selected m true true cs None p o s is plain end e = rw (is, e) (ended_spot (no_body, false) s.at s.rest e)
+own_selected m true false cs None p o s is plain end e = rw (is, e) (sym (end (one_sided, false)))
+own_selected m true true cs (Some id) p o s (i, (at, is)) plain end e = rw (is, e) (sym (end (one_sided, false) ∙ ended_spot (one_sided, false) s.at s.rest e))
+own_selected m true false cs (Some id) p o s (i, (at, is)) plain end e = rw (is, e) (at_index m cs id i o s at ∙ own_case m (case_at cs i) o s plain)
 
 -- ---- in each mode
 
-selected : (m : Mode) (filled ended : Bool) (cs : Cases) (x : Option ℕ) (o : Order) (s : Spot) → (length s.rest == 0) ≡ ended
-    → case_selected m filled x (λ i s1. case_named m o cs i s1) s ≡ by_choice m filled cs (choice_of filled ended cs x) o s
-selected Two false ended cs None o s e = refl
-selected Two false ended cs (Some i) o s e = found Two cs i o s ∙ index_choice Two false cs (case_index cs i) o s
-selected Two true true cs None o s e = rw e refl
-selected Two true false cs None o s e = rw e refl
-selected Two true true cs (Some i) o s e = rw e refl
-selected Two true false cs (Some i) o s e = rw e (case_filled cs i o s)
-selected Inner filled ended cs x o s e = own_selected Inner filled ended cs x o s refl (λ y. refl) e
-selected Tail filled ended cs x o s e = own_selected Tail filled ended cs x o s refl (λ y. refl) e
+selected : (m : Mode) (filled ended : Bool) (cs : Cases) (x p : Option ℕ) (o : Order) (s : Spot) → Selects cs x p → (length s.rest == 0) ≡ ended
+    → case_selected m filled x (λ id s1. case_named m o cs id s1) s ≡ by_choice m filled cs (choice_of filled ended p) o s
+selected Two false ended cs None p o s is e = rw is refl
+selected Two false ended cs (Some id) p o s (i, (at, is)) e = rw is (at_index Two cs id i o s at)
+selected Two true true cs None p o s is e = rw (is, e) refl
+selected Two true false cs None p o s is e = rw (is, e) refl
+selected Two true true cs (Some id) p o s (i, (at, is)) e = rw (is, e) refl
+selected Two true false cs (Some id) p o s (i, (at, is)) e = rw (is, e) (case_filled cs id i o s at)
+selected Inner filled ended cs x p o s is e = own_selected Inner filled ended cs x p o s is refl (λ y. refl) e
+selected Tail filled ended cs x p o s is e = own_selected Tail filled ended cs x p o s is refl (λ y. refl) e
 
 pub chosen : (m : Mode) (filled ended : Bool) (cs : Cases) (d : ℤ) (k : Choice) (a : Standing) → Stands a → ended ≡ (true && nat_eq a.place a.region_end) → k ≡ choice filled ended cs d → Ahead (case_in m filled cs d) (by_choice m filled cs k) a a
 chosen m filled ended cs d k a st is e = rephrased (case_in m filled cs d) (by_choice m filled cs k) (begins (case_in m filled cs d) (case_in m filled cs d) a (λ s. refl))
-    (λ xs told. selected m filled ended cs (select cs d) a.order (spot a xs) (ended_is a xs st told ∙ sym is) ∙ ap (λ c. by_choice m filled cs c a.order (spot a xs)) (sym e))
+    (λ xs told. selected m filled ended cs (select cs d) (selected_index cs d) a.order (spot a xs) (number_selects cs d) (ended_is a xs st told ∙ sym is) ∙ ap (λ c. by_choice m filled cs c a.order (spot a xs)) (sym e))
 
 -- ---- the program's cases
 

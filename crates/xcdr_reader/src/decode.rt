@@ -549,7 +549,6 @@ fn read_case<C: Peeking>(
             pass_rest(cursor, mode)?;
             Ok(SettledCase::OneSided)
         }
-        Choice::Missing => Err(short(cursor.place())),
         Choice::Case(at) => read_body(alloc, &cases[at], guide.part(at + 1), filled, mode, cursor),
     }
 }

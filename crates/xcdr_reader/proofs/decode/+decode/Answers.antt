@@ -418,11 +418,6 @@ read_case-returns-in_ok-pass_rest-in-OneSided g t c =
     let u = chosen c.args.mode c.args.filled c.has_ended.result cs c.args.number _ (g.C.Cursor.state c.args.cursor.now) (g.met.C.Cursor.stands c.args.cursor.now) c.has_ended.ensures (same_choice c.args.filled c.has_ended.result cs c.args.number _ _ (search rules) c.in-OneSided.ensures.choice) in
     ends case_of (λ o. (model.one_sided, false)) (goes_on (λ u. u) (λ o s. to_end c.args.mode tt s) (with_value (model.one_sided, false)) (value_ended c.args.mode (model.one_sided, false) u) c.in_ok-pass_rest-in-OneSided.ensures) refl
 
-pub read_case-returns-in-Missing : goal.read_case-returns-in-Missing
-read_case-returns-in-Missing g t c =
-    let st = g.met.C.Cursor.stands c.args.cursor.now in
-    rw c.short.ensures (malformed case_of (λ s. s.at) why.Short (chosen c.args.mode c.args.filled c.has_ended.result (cases_shape c.args.cases.now) c.args.number _ (g.C.Cursor.state c.args.cursor.now) st c.has_ended.ensures (same_choice c.args.filled c.has_ended.result (cases_shape c.args.cases.now) c.args.number _ _ (search rules) c.in-Missing.ensures.choice)) (λ xs. omega (arith, c.place.ensures, st.from_origin)))
-
 pub read_case-returns-in-Case : goal.read_case-returns-in-Case
 read_case-returns-in-Case g t c =
     let m = c.index-cases-at.result in
