@@ -1,5 +1,5 @@
 -- One number more.
-use Rattle.std.proofs.Common.{◌≡◌, refl, ◌∙◌, ℕ, suc, ◌+◌, ◌-◌, ◌<◌, Bool, true, List, [], ◌∷◌, ◌++◌, ◌^◌, length, take, drop, nat_lt, decimal, append_assoc, arith}
+use Rattle.std.proofs.Common.{◌≡◌, refl, sym, ap, ◌∙◌, ℕ, suc, ◌+◌, ◌-◌, ◌<◌, Bool, true, List, [], ◌∷◌, ◌++◌, ◌^◌, length, take, drop, nat_lt, decimal, append_assoc, arith}
 use Rattle.std.proofs.lemmas.Bool.{and_parts, ltb-true, lt-ltb}
 use Rattle.serde_json.specs.Written.{compact_text, comma_if}
 use Rattle.xt_shapes.specs.Lists.{all}
@@ -13,14 +13,14 @@ use Rattle.json_values.specs.Written.{int_data, prim_data}
 use Rattle.packed_reader.specs.View.{number_of}
 use Rattle.packed_json.specs.Lists.{numbers_text, octets_text}
 
-pub numbers_next : (p : Primitive) (o : Order) (later : Bool) (n i : ℕ) (ys first more out comma behind : List ℕ) → i < n → first ≡ take (size p) ys → more ≡ drop (size p) ys → comma ≡ out ++ comma_if later → behind ≡ comma ++ compact_text (int_data (prim_data p) (number_of p o first))
-    → behind ++ numbers_text p o true (n - (i + 1)) more ≡ out ++ numbers_text p o later (n - i) ys
-numbers_next p o later n i ys first more out comma behind within is_first is_more is_comma is_behind =
+pub numbers_next : (p : Primitive) (o : Order) (later : Bool) (n i : ℕ) (ys first more all out block behind : List ℕ) → i < n → first ≡ take (size p) ys → more ≡ drop (size p) ys → out ++ block ≡ all → behind ≡ block ++ (comma_if later ++ compact_text (int_data (prim_data p) (number_of p o first)))
+    → (out ++ behind) ++ numbers_text p o true (n - (i + 1)) more ≡ all ++ numbers_text p o later (n - i) ys
+numbers_next p o later n i ys first more all out block behind within is_first is_more is_all is_behind =
     let k = n - (i + 1) in
     let next : n - i ≡ suc k = omega arith in
     let text = compact_text (int_data (prim_data p) (number_of p o (take (size p) ys))) in
     let rest = numbers_text p o true k (drop (size p) ys) in
-    rw (is_behind, is_comma, is_first, is_more, next) (append_assoc (out ++ comma_if later) text rest ∙ append_assoc out (comma_if later) (text ++ rest))
+    rw (is_behind, ← is_all, is_first, is_more, next) (append_assoc out (block ++ (comma_if later ++ text)) rest ∙ ap (λ (l : List ℕ). out ++ l) (append_assoc block (comma_if later ++ text) rest ∙ ap (λ (l : List ℕ). block ++ l) (append_assoc (comma_if later) text rest)) ∙ sym (append_assoc out block (comma_if later ++ (text ++ rest))))
 
 -- ---- octets
 

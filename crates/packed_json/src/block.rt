@@ -1,5 +1,5 @@
 //! A block of octets on the stack, which goes to the text at once.
-ghost use Rattle.std.specs.Prelude.{◌≡◌, ◌≤◌, ◌<◌, ◌++◌, [], ◌∷◌, length, nat_lt, take, decimal, IfSome};
+ghost use Rattle.std.specs.Prelude.{◌≡◌, ◌≤◌, ◌<◌, ◌+◌, ◌++◌, [], ◌∷◌, length, nat_lt, take, decimal, IfSome};
 
 use crate::texts::put;
 use std::marker::Model;
@@ -50,6 +50,24 @@ impl Block {
         self.count += 1;
     }
 
+    /// How many octets more it takes.
+    #[inline(always)]
+    pub(crate) fn room(&self) -> usize
+        ensures { length self.now + result ≡ 512 }
+    {
+        SIZE - self.count
+    }
+
+    /// Adds octets behind those that are there.
+    #[inline(always)]
+    pub(crate) fn add_all(&mut self, octets: &[u8])
+        requires room { length self.old + length octets.now ≤ 512 }
+        ensures { self.new ≡ self.old ++ octets.now }
+    {
+        self.octets[self.count..self.count + octets.len()].copy_from_slice(octets);
+        self.count += octets.len();
+    }
+
     /// Adds some of the first of four octets. All four are written, which takes one store.
     #[inline(always)]
     pub(crate) fn add_first(&mut self, octets: &[u8], count: usize)
@@ -64,9 +82,9 @@ impl Block {
 
     #[inline(always)]
     fn has_room(&self) -> bool
-        ensures { result ≡ nat_lt (length self.now) 497 }
+        ensures { result ≡ nat_lt (length self.now) 481 }
     {
-        self.count < 497
+        self.count < 481
     }
 
     fn clear(&mut self)
@@ -80,7 +98,7 @@ impl Block {
 #[inline(always)]
 pub(crate) fn make_room(block: &mut Block, out: &mut Text) -> Option<()>
     ensures kept { IfSome result (λ u. out.new ++ block.new ≡ out.old ++ block.old) }
-    ensures room { IfSome result (λ u. length block.new ≤ 496) }
+    ensures room { IfSome result (λ u. length block.new ≤ 480) }
 {
     if block.has_room() {
         return Some(());
@@ -88,6 +106,15 @@ pub(crate) fn make_room(block: &mut Block, out: &mut Text) -> Option<()>
     put(block.octets(), out)?;
     block.clear();
     Some(())
+}
+
+/// Appends the block and the closing bracket to the text.
+pub(crate) fn put_last(block: &mut Block, out: &mut Text) -> Option<()>
+    ensures { IfSome result (λ u. out.new ≡ (out.old ++ block.old) ++ 93 ∷ []) }
+{
+    make_room(block, out)?;
+    block.add(b']');
+    put(block.octets(), out)
 }
 
 /// The digits of an octet.

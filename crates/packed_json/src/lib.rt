@@ -6,6 +6,7 @@ mod block;
 mod digits;
 mod numbers;
 mod plan;
+mod sinks;
 mod tapes;
 mod texts;
 mod trees;

@@ -1,6 +1,6 @@
 //! Numbers and lists of numbers, appended.
 ghost use Rattle.std.specs.Prelude.{◌≡◌, ◌++◌, false, IfSome, length};
-ghost use Rattle.serde_json.specs.Written.{compact_text};
+ghost use Rattle.serde_json.specs.Written.{comma_if, compact_text};
 ghost use Rattle.xt_shapes.specs.Sizes as sizes;
 ghost use Rattle.xt_shapes.specs.declared.leaves.Primitive.TheVariants.{Byte};
 ghost use Rattle.json_values.specs.Written as json;
@@ -11,9 +11,10 @@ ghost use Rattle.packed_reader.specs.View.{number_of};
 ghost use Rattle.packed_json.specs.Lists.{numbers_text, octets_text};
 
 use crate::bits::{put_double, put_single};
-use crate::block::{Block, add_digits, make_room};
+use crate::block::{Block, add_digits, make_room, put_last};
 use crate::digits::add_behind;
-use crate::texts::{put, put_comma};
+use crate::sinks::{Sink, add_behind_comma};
+use crate::texts::put;
 use packed_reader::Numbers;
 use type_values::is_of_prim;
 use xt_lists::Text;
@@ -22,29 +23,29 @@ use xt_wire::numbers::{number, prim_size, prim_value};
 
 // A number below zero.
 #[inline(always)]
-fn put_negative(number: i64, out: &mut Text) -> Option<()>
+fn put_negative<S: Sink>(number: i64, out: &mut S) -> Option<()>
     requires { int_le number (negsuc 0) ≡ true }
-    ensures { IfSome result (λ u. out.new ≡ out.old ++ compact_text (json.whole number)) }
+    ensures { IfSome result (λ u. S.held out.new ≡ S.held out.old ++ compact_text (json.whole number)) }
 {
     let mut buffer = itoa::Buffer::new();
-    put(buffer.format(number).as_bytes(), out)
+    out.add_octets(buffer.format(number).as_bytes())
 }
 
 // A number that isn't below zero.
 #[inline(always)]
-fn put_natural(number: u64, out: &mut Text) -> Option<()>
-    ensures { IfSome result (λ u. out.new ≡ out.old ++ compact_text (json.whole (pos number))) }
+fn put_natural<S: Sink>(number: u64, out: &mut S) -> Option<()>
+    ensures { IfSome result (λ u. S.held out.new ≡ S.held out.old ++ compact_text (json.whole (pos number))) }
 {
     let mut buffer = itoa::Buffer::new();
-    put(buffer.format(number).as_bytes(), out)
+    out.add_octets(buffer.format(number).as_bytes())
 }
 
 /// A whole number of at most 64 bits.
 #[inline(always)]
-pub(crate) fn put_whole(number: i128, out: &mut Text) -> Option<()>
+pub(crate) fn put_whole<S: Sink>(number: i128, out: &mut S) -> Option<()>
     requires low { int_le (negsuc 9223372036854775807) number ≡ true }
     requires high { int_le number (pos 18446744073709551615) ≡ true }
-    ensures { IfSome result (λ u. out.new ≡ out.old ++ compact_text (json.whole number)) }
+    ensures { IfSome result (λ u. S.held out.new ≡ S.held out.old ++ compact_text (json.whole number)) }
 {
     if number < 0 {
         return put_negative(number as i64, out);
@@ -53,27 +54,40 @@ pub(crate) fn put_whole(number: i128, out: &mut Text) -> Option<()>
 }
 
 #[inline(always)]
-fn put_truth(is_true: bool, out: &mut Text) -> Option<()>
-    ensures { IfSome result (λ u. out.new ≡ out.old ++ compact_text (boolean is_true)) }
+fn put_truth<S: Sink>(is_later: bool, is_true: bool, out: &mut S) -> Option<()>
+    ensures { IfSome result (λ u. S.held out.new ≡ S.held out.old ++ (comma_if is_later ++ compact_text (boolean is_true))) }
 {
     if is_true {
-        return put(b"true", out);
+        return add_behind_comma(is_later, b",true", out);
     }
-    put(b"false", out)
+    add_behind_comma(is_later, b",false", out)
 }
 
-/// A number of a primitive.
+// A whole number of at most 64 bits, behind others or none.
 #[inline(always)]
-pub(crate) fn put_prim(prim: Prim, number: i128, out: &mut Text) -> Option<()>
-    ensures { IfSome result (λ u. out.new ≡ out.old ++ compact_text (json.prim_data prim number)) }
+fn put_integer<S: Sink>(is_later: bool, number: i128, out: &mut S) -> Option<()>
+    requires low { int_le (negsuc 9223372036854775807) number ≡ true }
+    requires high { int_le number (pos 18446744073709551615) ≡ true }
+    ensures { IfSome result (λ u. S.held out.new ≡ S.held out.old ++ (comma_if is_later ++ compact_text (json.whole number))) }
+{
+    if is_later {
+        out.add_octets(b",")?;
+    }
+    put_whole(number, out)
+}
+
+/// A number of a primitive, behind others or none.
+#[inline(always)]
+pub(crate) fn put_prim<S: Sink>(prim: Prim, is_later: bool, number: i128, out: &mut S) -> Option<()>
+    ensures { IfSome result (λ u. S.held out.new ≡ S.held out.old ++ (comma_if is_later ++ compact_text (json.prim_data prim number))) }
 {
     if !is_of_prim(prim, number) {
         return None;
     }
     match prim {
-        Prim::Boolean => put_truth(number == 1, out),
-        Prim::Float32 => put_single(number as u32, out),
-        Prim::Float64 => put_double(number as u64, out),
+        Prim::Boolean => put_truth(is_later, number == 1, out),
+        Prim::Float32 => put_single(is_later, number as u32, out),
+        Prim::Float64 => put_double(is_later, number as u64, out),
         Prim::Byte
         | Prim::Int8
         | Prim::Uint8
@@ -83,16 +97,27 @@ pub(crate) fn put_prim(prim: Prim, number: i128, out: &mut Text) -> Option<()>
         | Prim::Uint32
         | Prim::Int64
         | Prim::Uint64
-        | Prim::Char8 => put_whole(number, out),
+        | Prim::Char8 => put_integer(is_later, number, out),
     }
 }
 
 #[inline(always)]
-fn put_number(prim: Prim, order: Order, octets: &[u8], out: &mut Text) -> Option<()>
+fn put_number(
+    prim: Prim,
+    order: Order,
+    is_later: bool,
+    octets: &[u8],
+    block: &mut Block,
+) -> Option<()>
     requires { length octets.now ≡ sizes.size prim }
-    ensures { IfSome result (λ u. out.new ≡ out.old ++ compact_text (json.int_data (json.prim_data prim) (number_of prim order octets.now))) }
+    ensures { IfSome result (λ u. block.new ≡ block.old ++ (comma_if is_later ++ compact_text (json.int_data (json.prim_data prim) (number_of prim order octets.now)))) }
 {
-    put_prim(prim, prim_value(prim, number(order, octets)), out)
+    put_prim(
+        prim,
+        is_later,
+        prim_value(prim, number(order, octets)),
+        block,
+    )
 }
 
 // A list of numbers of that primitive, behind its opening bracket. Where the call names the primitive, the compiler makes a loop for it alone.
@@ -104,18 +129,18 @@ fn put_numbers(prim: Prim, numbers: &Numbers<'_>, out: &mut Text) -> Option<()>
     let size = prim_size(prim) as usize;
     let mut rest = numbers.octets;
     let mut is_later = false;
+    let mut block = Block::new();
     for turn in 0..numbers.count {
         if rest.len() < size {
             return None;
         }
-        put_comma(is_later, out)?;
+        make_room(&mut block, out)?;
         let (first, more) = rest.split_at(size);
-        put_number(prim, numbers.order, first, out)?;
+        put_number(prim, numbers.order, is_later, first, &mut block)?;
         rest = more;
         is_later = true;
     }
-    put(b"]", out)?;
-    Some(())
+    put_last(&mut block, out)
 }
 
 /// Appends the JSON of a list of octets, behind its opening bracket, a block at a time.
@@ -131,8 +156,7 @@ pub(crate) fn put_octets(octets: &[u8], out: &mut Text) -> Option<()>
         make_room(&mut block, out)?;
         add_behind(*octet, &mut block);
     }
-    put(block.octets(), out)?;
-    put(b"]", out)
+    put_last(&mut block, out)
 }
 
 // A list of so many octets.

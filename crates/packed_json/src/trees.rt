@@ -5,8 +5,9 @@ ghost use Rattle.xt_shapes.specs.Vals.{listed, mapped, struct_of, vals_of, pairs
 ghost use Rattle.packed_json.specs.Plans.{Writes, WritesBody, WritesItems, WritesPair, WritesPairs, WritesPart, WritesParts, found_case, list_meaning, map_meaning, meaning, part, slot_at, struct_meaning, union_meaning};
 
 use crate::plan::{Plan, PlannedMap, PlannedMember, PlannedUnion};
+use crate::sinks::add_behind_comma;
 use crate::texts::{put, put_comma};
-use crate::writing::{put_key, write_integer, write_text};
+use crate::writing::{write_integer, write_text};
 use type_trees::{Pair, Slot, UnionValue, Value};
 use xt_lists::Text;
 
@@ -51,7 +52,7 @@ fn tree_member(
     let Some(value) = tree_at(slots, member.at) else {
         return Some(is_later);
     };
-    put_key(is_later, member.key.octets(), out)?;
+    add_behind_comma(is_later, member.key.octets(), out)?;
     write_tree(&member.plan, value, out)?;
     Some(true)
 }

@@ -4,10 +4,11 @@ ghost use Rattle.serde_json.specs.Written.{comma_if};
 ghost use Rattle.xt_shapes.specs.Vals.{int, text, listed, struct_of, vals_of, slots_of, absent, present};
 ghost use Rattle.json_values.specs.Written.{int_data, prim_data, mask_data, octets_data};
 ghost use Rattle.packed_reader.specs.View.{packed_val, packed_slot, numbers_of};
-ghost use Rattle.packed_json.specs.Plans.{Writes, WritesItems, WritesPart, WritesParts, key_behind, leaf_meaning, list_meaning, literal_meaning, meaning, part, slot_at, struct_meaning};
+ghost use Rattle.packed_json.specs.Plans.{Writes, WritesItems, WritesPart, WritesParts, leaf_meaning, list_meaning, literal_meaning, meaning, part, slot_at, struct_meaning};
 
 use crate::numbers::{put_list, put_prim, put_whole};
 use crate::plan::{Plan, PlannedMember};
+use crate::sinks::add_behind_comma;
 use crate::texts::{put, put_comma, put_text};
 use packed_reader::{Numbers, Packed, PackedSlot};
 use std::collections::BTreeMap;
@@ -19,7 +20,7 @@ use xt_shapes::Prim;
 fn write_number(prim: Prim, number: i128, out: &mut Text) -> Option<()>
     ensures { IfSome result (λ u. Writes (leaf_meaning (int_data (prim_data prim))) (int number) out.old out.new) }
 {
-    put_prim(prim, number, out)
+    put_prim(prim, false, number, out)
 }
 
 fn write_mask(number: i128, out: &mut Text) -> Option<()>
@@ -115,19 +116,6 @@ fn value_at<'s, 'o>(slots: &'s [PackedSlot<'o>], at: usize) -> Option<&'s Packed
     }
 }
 
-// What stands before a member's value, behind others or none.
-pub(crate) fn put_key(is_later: bool, key: &[u8], out: &mut Text) -> Option<()>
-    ensures { IfSome result (λ u. out.new ≡ out.old ++ key_behind is_later key.now) }
-{
-    if is_later {
-        return put(key, out);
-    }
-    match key {
-        [] => Some(()),
-        [_, rest @ ..] => put(rest, out),
-    }
-}
-
 // A member, if it is there, behind others or none. Whether one stands before the next is answered.
 #[cycle(writing)]
 fn write_member(
@@ -142,7 +130,7 @@ fn write_member(
     let Some(value) = value_at(slots, member.at) else {
         return Some(is_later);
     };
-    put_key(is_later, member.key.octets(), out)?;
+    add_behind_comma(is_later, member.key.octets(), out)?;
     write_value(&member.plan, value, out)?;
     Some(true)
 }
