@@ -6,6 +6,7 @@ ghost use Rattle.type_rules.specs.Valid.{type_fault};
 use crate::answers::Answer;
 use crate::cases::Case;
 use crate::parts::{hashed, headed, noted, put_each, referred, settled};
+use crate::plain::plain_sample;
 use crate::samples::{body_read, sample_again, sample_read, told};
 use crate::trouble::Trouble;
 use crate::values::{
@@ -48,6 +49,7 @@ pub fn answer(alloc: Global, call: &str, case: &Case<'_>) -> Result<Answer, Trou
         "equivalent" => equal(alloc, case),
         "project" => projected(alloc, case),
         "read" => sample_read(alloc, words, case),
+        "plain" => plain_sample(alloc, words, case),
         "again" => sample_again(alloc, words, case),
         "body" => body_read(alloc, words, case),
         "write" => sample_written(alloc, words, case),

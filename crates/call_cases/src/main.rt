@@ -6,6 +6,7 @@ mod answers;
 mod calls;
 mod cases;
 mod parts;
+mod plain;
 mod samples;
 mod trouble;
 mod values;

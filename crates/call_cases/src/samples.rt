@@ -56,7 +56,7 @@ pub fn octets_of(alloc: Global, text: &str) -> Result<Vec<u8>, Trouble> {
 }
 
 /// The representation that the words name: XCDR2 where they name none.
-fn rep_named(words: &str) -> Result<Rep, Trouble> {
+pub fn rep_named(words: &str) -> Result<Rep, Trouble> {
     if words.is_empty() {
         return Ok(Rep::Xcdr2);
     }

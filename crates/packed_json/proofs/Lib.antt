@@ -10,3 +10,4 @@ pub mod UnionLaws
 pub mod Numbered
 pub mod OfTapes
 pub mod Rows
+pub mod Wholes

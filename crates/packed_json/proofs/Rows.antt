@@ -56,7 +56,7 @@ row_at n small =
 -- ---- a block
 
 -- some of the first octets stand behind the first n
-pub first_added : (n count : ℕ) (now all octets : List ℕ) → take n all ≡ now → n + 4 ≤ length all → length octets ≡ 4 → count ≤ 4 → take (n + count) (put_mid n ((n + 4) - n) all octets) ≡ now ++ take count octets
-first_added n count now all octets is within four some =
+pub first_added : (n m count : ℕ) (now all octets : List ℕ) → take n all ≡ now → n + m ≤ length all → length octets ≡ m → count ≤ m → take (n + count) (put_mid n ((n + m) - n) all octets) ≡ now ++ take count octets
+first_added n m count now all octets is within many some =
     let long : length (take n all) ≡ n = length-take-le n all (omega (arith, within)) in
-    ap (λ (k : ℕ). take (k + count) (put_mid n ((n + 4) - n) all octets)) (sym long) ∙ take-append-add (take n all) (octets ++ _) count ∙ ap₂ (λ (a b : List ℕ). a ++ b) is (take-append-le count octets _ (omega (arith, four, some)))
+    ap (λ (k : ℕ). take (k + count) (put_mid n ((n + m) - n) all octets)) (sym long) ∙ take-append-add (take n all) (octets ++ _) count ∙ ap₂ (λ (a b : List ℕ). a ++ b) is (take-append-le count octets _ (omega (arith, many, some)))

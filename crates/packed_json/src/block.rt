@@ -68,15 +68,14 @@ impl Block {
         self.count += octets.len();
     }
 
-    /// Adds some of the first of four octets. All four are written, which takes one store.
+    /// Adds the first of the octets, so many. All are written, which takes few steps where their number is a constant.
     #[inline(always)]
     pub(crate) fn add_first(&mut self, octets: &[u8], count: usize)
-        requires four { length octets.now ≡ 4 }
-        requires some { count ≤ 4 }
-        requires room { length self.old ≤ 508 }
+        requires some { count ≤ length octets.now }
+        requires room { length self.old + length octets.now ≤ 512 }
         ensures { self.new ≡ self.old ++ take count octets.now }
     {
-        self.octets[self.count..self.count + 4].copy_from_slice(octets);
+        self.octets[self.count..self.count + octets.len()].copy_from_slice(octets);
         self.count += count;
     }
 

@@ -1,5 +1,5 @@
 //! Numbers and lists of numbers, appended.
-ghost use Rattle.std.specs.Prelude.{◌≡◌, ◌++◌, false, IfSome, length};
+ghost use Rattle.std.specs.Prelude.{◌≡◌, ◌++◌, false, IfSome, length, decimal};
 ghost use Rattle.serde_json.specs.Written.{comma_if, compact_text};
 ghost use Rattle.xt_shapes.specs.Sizes as sizes;
 ghost use Rattle.xt_shapes.specs.declared.leaves.Primitive.TheVariants.{Byte};
@@ -21,36 +21,50 @@ use xt_lists::Text;
 use xt_shapes::{Order, Prim};
 use xt_wire::numbers::{number, prim_size, prim_value};
 
-// A number below zero.
+// The digits of a number. Twenty octets are copied, however many digits there are, which takes no call.
 #[inline(always)]
-fn put_negative<S: Sink>(number: i64, out: &mut S) -> Option<()>
+fn put_digits<S: Sink>(number: u64, out: &mut S) -> Option<()>
+    ensures { IfSome result (λ u. S.held out.new ≡ S.held out.old ++ decimal number) }
+{
+    let mut digits = [b'0'; 40];
+    let start = itoa::write_digits(number, &mut digits, 20);
+    out.add_some(&digits[start..start + 20], 20 - start)?;
+    Some(())
+}
+
+// A number below zero, behind others or none.
+#[inline(always)]
+fn put_negative<S: Sink>(is_later: bool, number: i64, out: &mut S) -> Option<()>
     requires { int_le number (negsuc 0) ≡ true }
-    ensures { IfSome result (λ u. S.held out.new ≡ S.held out.old ++ compact_text (json.whole number)) }
+    ensures { IfSome result (λ u. S.held out.new ≡ S.held out.old ++ (comma_if is_later ++ compact_text (json.whole number))) }
 {
-    let mut buffer = itoa::Buffer::new();
-    out.add_octets(buffer.format(number).as_bytes())
+    add_behind_comma(is_later, b",-", out)?;
+    put_digits(number.unsigned_abs(), out)?;
+    Some(())
 }
 
-// A number that isn't below zero.
+// A number that isn't below zero, behind others or none.
 #[inline(always)]
-fn put_natural<S: Sink>(number: u64, out: &mut S) -> Option<()>
-    ensures { IfSome result (λ u. S.held out.new ≡ S.held out.old ++ compact_text (json.whole (pos number))) }
+fn put_natural<S: Sink>(is_later: bool, number: u64, out: &mut S) -> Option<()>
+    ensures { IfSome result (λ u. S.held out.new ≡ S.held out.old ++ (comma_if is_later ++ compact_text (json.whole (pos number)))) }
 {
-    let mut buffer = itoa::Buffer::new();
-    out.add_octets(buffer.format(number).as_bytes())
+    if is_later {
+        out.add_octets(b",")?;
+    }
+    put_digits(number, out)
 }
 
-/// A whole number of at most 64 bits.
+/// A whole number of at most 64 bits, behind others or none.
 #[inline(always)]
-pub(crate) fn put_whole<S: Sink>(number: i128, out: &mut S) -> Option<()>
+pub(crate) fn put_whole<S: Sink>(is_later: bool, number: i128, out: &mut S) -> Option<()>
     requires low { int_le (negsuc 9223372036854775807) number ≡ true }
     requires high { int_le number (pos 18446744073709551615) ≡ true }
-    ensures { IfSome result (λ u. S.held out.new ≡ S.held out.old ++ compact_text (json.whole number)) }
+    ensures { IfSome result (λ u. S.held out.new ≡ S.held out.old ++ (comma_if is_later ++ compact_text (json.whole number))) }
 {
     if number < 0 {
-        return put_negative(number as i64, out);
+        return put_negative(is_later, number as i64, out);
     }
-    put_natural(number as u64, out)
+    put_natural(is_later, number as u64, out)
 }
 
 #[inline(always)]
@@ -61,19 +75,6 @@ fn put_truth<S: Sink>(is_later: bool, is_true: bool, out: &mut S) -> Option<()>
         return add_behind_comma(is_later, b",true", out);
     }
     add_behind_comma(is_later, b",false", out)
-}
-
-// A whole number of at most 64 bits, behind others or none.
-#[inline(always)]
-fn put_integer<S: Sink>(is_later: bool, number: i128, out: &mut S) -> Option<()>
-    requires low { int_le (negsuc 9223372036854775807) number ≡ true }
-    requires high { int_le number (pos 18446744073709551615) ≡ true }
-    ensures { IfSome result (λ u. S.held out.new ≡ S.held out.old ++ (comma_if is_later ++ compact_text (json.whole number))) }
-{
-    if is_later {
-        out.add_octets(b",")?;
-    }
-    put_whole(number, out)
 }
 
 /// A number of a primitive, behind others or none.
@@ -97,7 +98,7 @@ pub(crate) fn put_prim<S: Sink>(prim: Prim, is_later: bool, number: i128, out: &
         | Prim::Uint32
         | Prim::Int64
         | Prim::Uint64
-        | Prim::Char8 => put_integer(is_later, number, out),
+        | Prim::Char8 => put_whole(is_later, number, out),
     }
 }
 

@@ -1,5 +1,5 @@
 //! Where numbers are added: a text, or a block.
-ghost use Rattle.std.specs.Prelude.{◌≡◌, ◌++◌, ℕ, List, IfSome};
+ghost use Rattle.std.specs.Prelude.{◌≡◌, ◌++◌, ℕ, List, take, IfSome};
 ghost use Rattle.packed_json.specs.Plans.{key_behind};
 
 use crate::block::Block;
@@ -12,6 +12,10 @@ pub(crate) trait Sink {
     /// Adds octets behind those that are there. None says nothing.
     fn add_octets(&mut self, octets: &[u8]) -> Option<()>
         ensures { IfSome result (λ u. held self.new ≡ held self.old ++ octets.now) };
+
+    /// Adds the first of the octets, so many. All may be written, which takes few steps where their number is a constant. None says nothing.
+    fn add_some(&mut self, octets: &[u8], count: usize) -> Option<()>
+        ensures { IfSome result (λ u. held self.new ≡ held self.old ++ take count octets.now) };
 }
 
 impl Sink for Text {
@@ -20,6 +24,14 @@ impl Sink for Text {
     #[inline(always)]
     fn add_octets(&mut self, octets: &[u8]) -> Option<()> {
         put(octets, self)
+    }
+
+    #[inline(always)]
+    fn add_some(&mut self, octets: &[u8], count: usize) -> Option<()> {
+        if count > octets.len() {
+            return None;
+        }
+        put(&octets[..count], self)
     }
 }
 
@@ -32,6 +44,18 @@ impl Sink for Block {
             return None;
         }
         self.add_all(octets);
+        Some(())
+    }
+
+    #[inline(always)]
+    fn add_some(&mut self, octets: &[u8], count: usize) -> Option<()> {
+        if octets.len() > self.room() {
+            return None;
+        }
+        if count > octets.len() {
+            return None;
+        }
+        self.add_first(octets, count);
         Some(())
     }
 }

@@ -7,7 +7,7 @@ ghost use Rattle.packed_json.specs.Plans.{Writes, WritesBody, WritesItems, Write
 use crate::plan::{Plan, PlannedMap, PlannedMember, PlannedUnion};
 use crate::sinks::add_behind_comma;
 use crate::texts::{put, put_comma};
-use crate::writing::{write_integer, write_text};
+use crate::writing::{write_disc, write_integer, write_text};
 use type_trees::{Pair, Slot, UnionValue, Value};
 use xt_lists::Text;
 
@@ -158,8 +158,7 @@ fn tree_body(plan: &PlannedUnion, value: &UnionValue, out: &mut Text) -> Option<
 fn tree_union(plan: &PlannedUnion, value: &UnionValue, out: &mut Text) -> Option<()>
     ensures { IfSome result (λ u. Writes (union_meaning (meaning plan.now.disc) plan.now.index (map meaning plan.now.cases)) (union_val value.now) out.old out.new) }
 {
-    put(b"{\"d\":", out)?;
-    write_integer(&plan.disc, value.disc, out)?;
+    write_disc(plan, value.disc, out)?;
     tree_body(plan, value, out)?;
     Some(())
 }

@@ -1,16 +1,16 @@
 //! Values, appended as their plan says.
-ghost use Rattle.std.specs.Prelude.{◌≡◌, ◌++◌, false, map, IfSome, MatchOption};
+ghost use Rattle.std.specs.Prelude.{◌≡◌, ◌++◌, false, map, slice_get, IfSome, MatchOption};
 ghost use Rattle.serde_json.specs.Written.{comma_if};
 ghost use Rattle.xt_shapes.specs.Vals.{int, text, listed, struct_of, vals_of, slots_of, absent, present};
 ghost use Rattle.json_values.specs.Written.{int_data, prim_data, mask_data, octets_data};
-ghost use Rattle.packed_reader.specs.View.{packed_val, packed_slot, numbers_of};
-ghost use Rattle.packed_json.specs.Plans.{Writes, WritesItems, WritesPart, WritesParts, leaf_meaning, list_meaning, literal_meaning, meaning, part, slot_at, struct_meaning};
+ghost use Rattle.packed_reader.specs.View.{packed_val, packed_slot, packed_union, numbers_of};
+ghost use Rattle.packed_json.specs.Plans.{Writes, WritesBody, WritesItems, WritesPart, WritesParts, before_disc, found_case, leaf_meaning, list_meaning, literal_meaning, meaning, part, slot_at, struct_meaning, union_meaning};
 
 use crate::numbers::{put_list, put_prim, put_whole};
-use crate::plan::{Plan, PlannedMember};
+use crate::plan::{Plan, PlannedMember, PlannedUnion};
 use crate::sinks::add_behind_comma;
 use crate::texts::{put, put_comma, put_text};
-use packed_reader::{Numbers, Packed, PackedSlot};
+use packed_reader::{Numbers, Packed, PackedSlot, PackedUnion};
 use std::collections::BTreeMap;
 use type_values::is_of_prim;
 use xt_lists::Text;
@@ -29,7 +29,7 @@ fn write_mask(number: i128, out: &mut Text) -> Option<()>
     if !is_of_prim(Prim::Uint64, number) {
         return None;
     }
-    put_whole(number, out)
+    put_whole(false, number, out)
 }
 
 fn write_literal(named: &BTreeMap<i128, Text>, number: i128, out: &mut Text) -> Option<()>
@@ -169,6 +169,54 @@ fn write_list(plan: &Plan, values: &[Packed<'_>], out: &mut Text) -> Option<()>
     Some(())
 }
 
+// The discriminator of a union, and what stands before it.
+pub(crate) fn write_disc(plan: &PlannedUnion, number: i128, out: &mut Text) -> Option<()>
+    ensures { IfSome result (λ u. Writes (meaning plan.now.disc) (int number) (out.old ++ before_disc) out.new) }
+{
+    put(b"{\"d\":", out)?;
+    write_integer(&plan.disc, number, out)?;
+    Some(())
+}
+
+// The value of the case at a position, and the closing brace.
+#[cycle(writing)]
+fn write_case(cases: &[Plan], at: usize, value: &Packed<'_>, out: &mut Text) -> Option<()>
+    ensures { IfSome result (λ u. WritesBody (slice_get (map meaning cases.now) at) (present (packed_val value.now)) out.old out.new) }
+{
+    if at >= cases.len() {
+        return None;
+    }
+    put(b",\"v\":", out)?;
+    write_value(&cases[at], value, out)?;
+    put(b"}", out)?;
+    Some(())
+}
+
+// The value of the case that the discriminator selects, if it is there, and the closing brace.
+#[cycle(writing)]
+#[tactic(auto, using(packed_reader::proofs::Views::packed_rules))]
+fn write_body(plan: &PlannedUnion, value: &PackedUnion<'_>, out: &mut Text) -> Option<()>
+    ensures { IfSome result (λ u. WritesBody (found_case plan.now.index (map meaning plan.now.cases) value.now.disc) (packed_slot value.now.body) out.old out.new) }
+{
+    match &value.body {
+        PackedSlot::Absent => put(b"}", out),
+        PackedSlot::Present(body) => {
+            let at = plan.index.find(value.disc)?;
+            write_case(plan.cases.as_slice(), at, body, out)
+        }
+    }
+}
+
+#[cycle(writing)]
+#[tactic(auto, using(packed_reader::proofs::Views::packed_rules))]
+fn write_union(plan: &PlannedUnion, value: &PackedUnion<'_>, out: &mut Text) -> Option<()>
+    ensures { IfSome result (λ u. Writes (union_meaning (meaning plan.now.disc) plan.now.index (map meaning plan.now.cases)) (packed_union value.now) out.old out.new) }
+{
+    write_disc(plan, value.disc, out)?;
+    write_body(plan, value, out)?;
+    Some(())
+}
+
 /// Appends the JSON of a value by its type's plan; members that are absent are left out. None says nothing, and what was appended is to be thrown
 /// away.
 #[cycle(writing)]
@@ -186,6 +234,7 @@ pub fn write_value(plan: &Plan, value: &Packed<'_>, out: &mut Text) -> Option<()
         (Plan::Struct(members), Packed::Struct(slots)) => {
             write_structure(members.as_slice(), slots.as_slice(), out)
         }
+        (Plan::Union(plan), Packed::Union(value)) => write_union(plan, value, out),
         _ => None,
     }
 }

@@ -1,5 +1,5 @@
 -- What is read of a number and of a text.
-use Rattle.std.proofs.Common.{◌≡◌, refl, sym, ap, ◌∙◌, ℕ, zero, suc, ◌-◌, ◌^◌, ◌≤◌, pos, Bool, true, false, cond, ◌&&◌, ◌||◌, ◌==◌, List, [], ◌∷◌, length, take, drop, nat_lt, nat_le, Ok}
+use Rattle.std.proofs.Common.{◌≡◌, refl, sym, ap, ◌∙◌, ℕ, zero, suc, ◌-◌, ◌^◌, ◌≤◌, ℤ, pos, Bool, true, false, cond, ◌&&◌, ◌||◌, ◌==◌, List, [], ◌∷◌, length, take, drop, nat_lt, nat_le, Ok}
 use Rattle.std.proofs.lemmas.Bool.{le-ltb, ltb-true, lt-leb}
 use Rattle.xt_shapes.specs.declared.leaves.Ext.{Ext}
 use Rattle.xt_shapes.specs.declared.leaves.Order.{Order}
@@ -13,12 +13,13 @@ use Rattle.xt_shapes.specs.Sizes.{size, is_signed, is_boolean, enum_size, mask_s
 use Rattle.xt_shapes.specs.Typing.{is_past, is_below}
 use Rattle.xt_shapes.specs.Vals.{Val, int, text}
 use Rattle.xcdr_model.specs.Numbers.{with_sign}
-use Rattle.xcdr_model.specs.Projection.{got, failed, gather_text}
+use Rattle.xcdr_model.specs.Projection.{Built, got, failed, gather_text}
 use Rattle.xcdr_model.specs.Reading.{Spot, ◌>>=◌, number_at, octets_at}
 use Rattle.xcdr_model.specs.Xcdr1Reading.{read1}
 use Rattle.xcdr_model.specs.Xcdr2Reading.{read, done, scalar_at, present_at, text_at}
 use Rattle.shape_laws.proofs.Self.{kept_all}
-use Rattle.packed_reader.specs.Reads.{read_in, most, Reads, IsValue}
+use Rattle.packed_reader.specs.Reads.{read_in, most, Reads}
+use Rattle.packed_reader.specs.Unions.{ReadsNumber}
 
 -- what has no parts, in each representation
 prim_read : (r : Rep) (o : Order) (p : Primitive) (s : Spot) → read_in r o (prim p) s ≡ done (λ i. (got (int i), false)) (scalar_at (most r) o (prim p) s)
@@ -41,9 +42,22 @@ unfolding read read1
 mask_read Xcdr1 o bits fs s = refl
 mask_read Xcdr2 o bits fs s = refl
 
-pub prim_is : (r : Rep) (o : Order) (p : Primitive) (n : ℕ) (s s2 : Spot) → number_at (most r) o (size p) s ≡ Ok (n, s2) → (is_boolean p && nat_lt 1 n) ≡ false → Reads r o (prim p) s (int (with_sign (size p) (is_signed p) n)) s2
+-- the number of a primitive or of an enumeration, and the value that it is
+pub prim_number_is : (r : Rep) (o : Order) (p : Primitive) (n : ℕ) (d : ℤ) (s s2 : Spot) → number_at (most r) o (size p) s ≡ Ok (n, s2) → (is_boolean p && nat_lt 1 n) ≡ false → d ≡ with_sign (size p) (is_signed p) n → ReadsNumber r o (prim p) s d s2
 unfolding scalar_at ◌>>=◌
-prim_is r o p n s s2 e two = prim_read r o p s ∙ rw (e, two) refl
+prim_number_is r o p n d s s2 e two is = record { number = rw (e, two, ← is) refl; built = refl }
+
+pub prim_is : (r : Rep) (o : Order) (p : Primitive) (d : ℤ) (v : Val) (s s2 : Spot) → ReadsNumber r o (prim p) s d s2 → v ≡ int d → Reads r o (prim p) s v s2
+unfolding ◌>>=◌
+prim_is r o p d v s s2 read is = prim_read r o p s ∙ rw (read.number, is) refl
+
+pub enum_number_is : (r : Rep) (o : Order) (e : Ext) (bits : ℕ) (ls : List Literal) (n : ℕ) (d : ℤ) (s s2 : Spot) → number_at (most r) o (enum_size bits) s ≡ Ok (n, s2) → d ≡ with_sign (enum_size bits) (enum_size bits == 4) n → is_literal ls d ≡ true → ReadsNumber r o (enumeration e bits ls) s d s2
+unfolding scalar_at ◌>>=◌
+enum_number_is r o e bits ls n d s s2 read is known = record { number = rw (read, ← is) refl; built = rw known refl }
+
+pub enum_is : (r : Rep) (o : Order) (e : Ext) (bits : ℕ) (ls : List Literal) (d : ℤ) (v : Val) (s s2 : Spot) → ReadsNumber r o (enumeration e bits ls) s d s2 → v ≡ int d → Reads r o (enumeration e bits ls) s v s2
+unfolding ◌>>=◌
+enum_is r o e bits ls d v s s2 read is = enum_read r o e bits ls s ∙ rw (read.number, is) (ap (λ (x : Built). Ok ((x, false), s2)) read.built)
 
 pub presence_is : (o : Order) (n : ℕ) (s s2 : Spot) → number_at 4 o 1 s ≡ Ok (n, s2) → n ≤ 1 → present_at o s ≡ Ok (n == 1, s2)
 unfolding ◌>>=◌
@@ -67,10 +81,6 @@ unfolding text_at ◌>>=◌
 text_is r o bound n t end all s s2 s3 e some f is last none ends within =
     let closed : has (λ b. b == 0) all ≡ true = later_has (n - 1) all (ap (has (λ b. b == 0)) (sym last) ∙ ends) in
     text_read r o bound s ∙ rw (e, some, f, ← is, none, closed, within_bound bound t within) refl
-
-pub enum_is : (r : Rep) (o : Order) (e : Ext) (bits : ℕ) (ls : List Literal) (n : ℕ) (v : Val) (s s2 : Spot) → number_at (most r) o (enum_size bits) s ≡ Ok (n, s2) → IsValue ls (enum_size bits) n v → Reads r o (enumeration e bits ls) s v s2
-unfolding scalar_at ◌>>=◌
-enum_is r o e bits ls n v s s2 e1 is = enum_read r o e bits ls s ∙ rw (e1, is.known, is.value) refl
 
 pub mask_is : (r : Rep) (o : Order) (bits : ℕ) (fs : List Flag) (n : ℕ) (s s2 : Spot) → number_at (most r) o (mask_size bits) s ≡ Ok (n, s2) → is_below (2 ^ bits) (pos n) ≡ true → Reads r o (bitmask bits fs) s (int (pos n)) s2
 unfolding scalar_at ◌>>=◌

@@ -8,4 +8,5 @@ pub mod Taken
 pub mod MemberSteps
 pub mod PieceSteps
 pub mod KindSteps
+pub mod UnionSteps
 pub mod SampleSteps

@@ -9,17 +9,17 @@ use Rattle.xt_shapes.specs.declared.leaves.Primitive.TheVariants as prims
 use Rattle.xt_shapes.specs.declared.leaves.Rep.{Rep}
 use Rattle.xt_shapes.specs.Lists.{has}
 use Rattle.xt_shapes.specs.Shape.{prim}
-use Rattle.xt_shapes.specs.Sizes.{size, is_boolean}
-use Rattle.xt_shapes.specs.Vals.{Val}
+use Rattle.xt_shapes.specs.Sizes.{size, is_signed, is_boolean}
+use Rattle.xt_shapes.specs.Vals.{Val, int}
 use Rattle.xcdr_model.specs.declared.malformed.Fault.{Fault}
 use Rattle.xcdr_model.specs.declared.malformed.Why.TheVariants.{Short}
-use Rattle.xcdr_model.specs.Numbers.{number, padding}
+use Rattle.xcdr_model.specs.Numbers.{number, padding, with_sign}
 use Rattle.xcdr_model.specs.Reading.{Spot, Reading, ◌>>=◌, octets_at, each_at, step}
 use Rattle.packed_reader.specs.View.{number_of, numbers_in}
 use Rattle.packed_reader.specs.Reads.{most, plain, Reads, ReadsEach}
 use Rattle.packed_reader.proofs.Steps.{number_ahead}
 use Rattle.packed_reader.proofs.Alignment.{aligned_more, aligned_after, size_some}
-use Rattle.packed_reader.proofs.LeafSteps.{prim_is}
+use Rattle.packed_reader.proofs.LeafSteps.{prim_number_is, prim_is}
 
 -- ---- steps
 
@@ -104,7 +104,10 @@ unfolding step
 first_number r o p pad s is fits fine =
     let k = size p in
     let at : s.at + (pad + k) ≡ s.at + pad + k = omega arith in
-    prim_is r o p (number o (take k (drop pad s.rest))) s (record { at = s.at + pad + k; rest = drop k (drop pad s.rest) }) (number_ahead (most r) o k pad s is fits ∙ rw at refl) fine
+    let n = number o (take k (drop pad s.rest)) in
+    let d = with_sign k (is_signed p) n in
+    let behind : Spot = record { at = s.at + pad + k; rest = drop k (drop pad s.rest) } in
+    prim_is r o p d (int d) s behind (prim_number_is r o p n d s behind (number_ahead (most r) o k pad s is fits ∙ rw at refl) fine refl) refl
 
 one_number : (r : Rep) (o : Order) (p : Primitive) (s : Spot) → padding (min (size p) (most r)) s.at ≡ 0 → size p ≤ length s.rest → (is_boolean p && nat_lt 1 (number o (take (size p) s.rest))) ≡ false → Reads r o (prim p) s (number_of p o (take (size p) s.rest)) (step (size p) s)
 one_number r o p s aligned fits fine =

@@ -1,6 +1,7 @@
 pub mod View
 pub mod Spots
 pub mod Reads
+pub mod Unions
 pub mod Pieces
 pub mod Bodies
 pub mod Plain

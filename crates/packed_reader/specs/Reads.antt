@@ -1,14 +1,12 @@
 -- What is read of the octets ahead, where nothing has to be settled (DDS-XTypes 1.3, 7.4; that nothing is settled is this profile's own).
-use Rattle.std.specs.Prelude.{◌≡◌, ℕ, ◌==◌, true, false, List, [], ◌∷◌, map, Ok, Bool, not, length}
+use Rattle.std.specs.Prelude.{◌≡◌, ℕ, true, false, List, [], ◌∷◌, map, Ok, Bool, not, length}
 use Rattle.xt_shapes.specs.declared.leaves.Order.{Order}
 use Rattle.xt_shapes.specs.declared.leaves.Primitive.{Primitive}
 use Rattle.xt_shapes.specs.declared.leaves.Rep.{Rep}
 use Rattle.xt_shapes.specs.declared.leaves.Rep.TheVariants.{Xcdr1, Xcdr2}
-use Rattle.xt_shapes.specs.Select.{is_literal}
-use Rattle.xt_shapes.specs.Shape.{Literal, Head, Shape, Members, prim}
+use Rattle.xt_shapes.specs.Shape.{Head, Shape, Members, prim}
 use Rattle.xt_shapes.specs.Typing.{is_past}
-use Rattle.xt_shapes.specs.Vals.{Val, int, Slot, absent, present}
-use Rattle.xcdr_model.specs.Numbers.{with_sign}
+use Rattle.xt_shapes.specs.Vals.{Val, Slot, absent, present}
 use Rattle.xcdr_model.specs.Projection.{Part, got, whole_structure}
 use Rattle.xcdr_model.specs.Reading.{Spot, Reading, number_at, each_at}
 use Rattle.xcdr_model.specs.Xcdr1Reading.{read1, read_members1, optional1_at, content_read, is_open}
@@ -41,11 +39,6 @@ plain v = (got v, false)
 -- the value that a type's reading gives, which uses these octets up to the second spot
 abbrev pub Reads : Rep → Order → Shape → Spot → Val → Spot → Type 0
 Reads r o t s v s2 = read_in r o t s ≡ Ok (plain v, s2)
-
--- the value of an enumeration, which a literal has, whose holder of k octets has the number
-pub record IsValue (ls : List Literal) (k n : ℕ) (v : Val) : Type 0 where
-  pub value : v ≡ int (with_sign k (k == 4) n)
-  pub known : is_literal ls (with_sign k (k == 4) n) ≡ true
 
 -- n values of a type, one after another
 abbrev pub ReadsEach : Rep → Order → Shape → ℕ → Spot → List Val → Spot → Type 0

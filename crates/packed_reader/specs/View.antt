@@ -4,13 +4,14 @@ use Rattle.xt_shapes.specs.declared.leaves.Order.{Order}
 use Rattle.xt_shapes.specs.declared.leaves.Order.TheVariants.{Little}
 use Rattle.xt_shapes.specs.declared.leaves.Primitive.{Primitive}
 use Rattle.xt_shapes.specs.Sizes.{size, is_signed}
-use Rattle.xt_shapes.specs.Vals.{Val, Slot, int, text, listed, struct_of, vals_of, slots_of, absent, present}
+use Rattle.xt_shapes.specs.Vals.{Val, Slot, int, text, listed, struct_of, union_of, vals_of, slots_of, absent, present}
 use Rattle.xcdr_model.specs.Numbers.{number, with_sign}
 use Rattle.packed_reader.specs.declared.values.Numbers.{Numbers}
 use Rattle.packed_reader.specs.declared.values.OwnNumbers.{OwnNumbers}
 use Rattle.packed_reader.specs.declared.values.Packed.{Packed, fold-Packed}
-use Rattle.packed_reader.specs.declared.values.Packed.TheOpen.{Packed-F, PackedSlot-F}
+use Rattle.packed_reader.specs.declared.values.Packed.TheOpen.{Packed-F, PackedSlot-F, PackedUnion-F}
 use Rattle.packed_reader.specs.declared.values.PackedSlot.{PackedSlot, fold-PackedSlot}
+use Rattle.packed_reader.specs.declared.values.PackedUnion.{PackedUnion, fold-PackedUnion}
 
 -- the number of a primitive that these octets are
 abbrev pub number_of : Primitive → Order → List ℕ → Val
@@ -28,9 +29,9 @@ abbrev pub own_numbers : OwnNumbers → List Val
 own_numbers x = numbers_in x.prim Little x.count x.octets
 
 -- One level of a packed value.
-module _ (F : Type 0 → Type 0 → Type 0) where
+module _ (F : Type 0 → Type 0 → Type 0 → Type 0) where
   abbrev pub PackedLevel : Type 0
-  PackedLevel = F Val Slot
+  PackedLevel = F Val Slot Val
 
 abbrev pub slot_level : PackedLevel PackedSlot-F → Slot
 slot_level PackedSlot-F.Absent = absent
@@ -44,11 +45,19 @@ packed_level (Packed-F.Numbers x) = listed (vals_of (numbers_of x))
 packed_level (Packed-F.Own x) = listed (vals_of (own_numbers x))
 packed_level (Packed-F.List vs) = listed (vals_of vs)
 packed_level (Packed-F.Struct ss) = struct_of (slots_of ss)
+packed_level (Packed-F.Union u) = u.value
+
+abbrev pub union_level : PackedLevel PackedUnion-F → Val
+union_level u = union_of u.disc u.body
 
 -- the value
 abbrev pub packed_val : Packed → Val
-packed_val = fold-Packed _ _ packed_level slot_level
+packed_val = fold-Packed _ _ _ packed_level slot_level union_level
+
+-- the value of a union
+abbrev pub packed_union : PackedUnion → Val
+packed_union = fold-PackedUnion _ _ _ packed_level slot_level union_level
 
 -- what a slot holds
 abbrev pub packed_slot : PackedSlot → Slot
-packed_slot = fold-PackedSlot _ _ packed_level slot_level
+packed_slot = fold-PackedSlot _ _ _ packed_level slot_level union_level

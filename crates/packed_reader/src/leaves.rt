@@ -3,22 +3,21 @@ ghost use Rattle.std.specs.Prelude.{◌≡◌, ◌<◌, ◌^◌, ◌==◌, ◌&&
 ghost use Rattle.xt_shapes.specs.declared.leaves.Rep.{Rep};
 ghost use Rattle.xt_shapes.specs.Lists.{has};
 ghost use Rattle.xt_shapes.specs.Shape as model;
-ghost use Rattle.type_trees.specs.Bridge.{literal_shape, flag_shape};
+ghost use Rattle.type_trees.specs.Bridge.{type_shape, literal_shape, flag_shape};
 ghost use Rattle.xt_shapes.specs.Sizes as sizes;
 ghost use Rattle.xt_shapes.specs.Vals.{int};
-ghost use Rattle.try_construct.specs.Guides.{TellsLiterals};
-ghost use Rattle.xcdr_model.specs.Numbers.{with_sign};
+ghost use Rattle.try_construct.specs.Guides.{IsGuide, TellsLiterals};
 ghost use Rattle.xcdr_model.specs.Xcdr2Reading.{present_at};
 ghost use Rattle.packed_reader.specs.View.{packed_val};
 ghost use Rattle.packed_reader.specs.Spots.{spot_of};
-ghost use Rattle.xt_wire.specs.numbers.Units.{IsUnit};
-ghost use Rattle.packed_reader.specs.Reads.{Reads, IsValue};
+ghost use Rattle.packed_reader.specs.Reads.{Reads};
+ghost use Rattle.packed_reader.specs.Unions.{ReadsNumber};
 
 use crate::ahead::Ahead;
 use crate::numbers::{next_aligned, next_octets, next_word};
 use crate::values::Packed;
 use try_construct::Guide;
-use type_trees::{EnumType, Literal, MaskType};
+use type_trees::{EnumType, MaskType, XType};
 use type_values::{fits_bits, is_past};
 use xt_shapes::{Order, Prim, Rep};
 use xt_wire::numbers::{enum_size, enum_value, is_boolean, mask_size, prim_size, prim_value};
@@ -36,21 +35,29 @@ fn number_packed<'a>(number: i128) -> Option<Packed<'a>>
     }
 }
 
-// A primitive whose octets are this number.
-#[inline(always)]
-fn prim_packed<'a>(prim: Prim, number: u64) -> Option<Packed<'a>>
-    requires { number < 256 ^ sizes.size prim }
-    ensures { IfSome result (λ v. packed_val v ≡ int (with_sign (sizes.size prim) (sizes.is_signed prim) number)) }
-{
-    number_packed(prim_value(prim, number))
-}
-
 // Whether the number is none of the two values of a boolean.
 #[inline(always)]
 fn is_no_truth(prim: Prim, number: u64) -> bool
     ensures { result ≡ (sizes.is_boolean prim && nat_lt 1 number) }
 {
     is_boolean(prim) && number > 1
+}
+
+// The number of a primitive.
+#[inline(always)]
+fn prim_number<'a>(
+    rep: Rep,
+    order: Order,
+    prim: Prim,
+    ahead: Ahead<'a>,
+) -> Option<(i128, Ahead<'a>)>
+    ensures { IfSome result (λ x. ReadsNumber rep order (model.prim prim) (spot_of ahead.entry) x.0 (spot_of x.1)) }
+{
+    let (number, behind) = next_aligned(rep, order, prim_size(prim), ahead)?;
+    if is_no_truth(prim, number) {
+        return None;
+    }
+    Some((prim_value(prim, number), behind))
 }
 
 #[inline(always)]
@@ -62,32 +69,30 @@ pub(crate) fn read_prim<'a>(
 ) -> Option<(Packed<'a>, Ahead<'a>)>
     ensures { IfSome result (λ x. Reads rep order (model.prim prim) (spot_of ahead.entry) (packed_val x.0) (spot_of x.1)) }
 {
-    let (number, behind) = next_aligned(rep, order, prim_size(prim), ahead)?;
-    if is_no_truth(prim, number) {
-        return None;
-    }
-    let value = prim_packed(prim, number)?;
+    let (number, behind) = prim_number(rep, order, prim, ahead)?;
+    let value = number_packed(number)?;
     Some((value, behind))
 }
 
-// The value of an enumeration whose holder, of so many octets, has this number, where a literal has it.
+// The number of an enumeration, where a literal has it.
 #[inline(always)]
-fn enum_packed<'a>(
-    literals: &[Literal],
+fn enum_number<'a>(
+    rep: Rep,
+    order: Order,
+    kind: &EnumType,
     guide: &Guide,
-    size: u32,
-    number: u64,
-) -> Option<Packed<'a>>
-    requires guide { TellsLiterals (map literal_shape literals.now) guide.now }
-    requires size { IsUnit size }
-    requires below { number < 256 ^ size }
-    ensures { IfSome result (λ v. IsValue (map literal_shape literals.now) size number (packed_val v)) }
+    ahead: Ahead<'a>,
+) -> Option<(i128, Ahead<'a>)>
+    requires { TellsLiterals (map literal_shape kind.now.literals) guide.now }
+    ensures { IfSome result (λ x. ReadsNumber rep order (model.enumeration kind.now.ext kind.now.bits (map literal_shape kind.now.literals)) (spot_of ahead.entry) x.0 (spot_of x.1)) }
 {
+    let size = enum_size(kind.bits);
+    let (number, behind) = next_aligned(rep, order, size, ahead)?;
     let value = enum_value(size, number);
-    if !guide.is_literal(literals, value) {
+    if !guide.is_literal(kind.literals.as_slice(), value) {
         return None;
     }
-    number_packed(value)
+    Some((value, behind))
 }
 
 #[inline(always)]
@@ -101,10 +106,30 @@ pub(crate) fn read_enum<'a>(
     requires { TellsLiterals (map literal_shape kind.now.literals) guide.now }
     ensures { IfSome result (λ x. Reads rep order (model.enumeration kind.now.ext kind.now.bits (map literal_shape kind.now.literals)) (spot_of ahead.entry) (packed_val x.0) (spot_of x.1)) }
 {
-    let size = enum_size(kind.bits);
-    let (number, behind) = next_aligned(rep, order, size, ahead)?;
-    let value = enum_packed(kind.literals.as_slice(), guide, size, number)?;
+    let (number, behind) = enum_number(rep, order, kind, guide, ahead)?;
+    let value = number_packed(number)?;
     Some((value, behind))
+}
+
+/// The number of a union's discriminator: of a primitive, or of an enumeration that has such a literal.
+#[tactic(auto, using(type_trees::proofs::Views::tree_rules))]
+pub(crate) fn read_disc<'a>(
+    rep: Rep,
+    order: Order,
+    ty: &XType,
+    guide: &Guide,
+    ahead: Ahead<'a>,
+) -> Option<(i128, Ahead<'a>)>
+    requires { IsGuide (type_shape ty.now) guide.now }
+    ensures { IfSome result (λ x. ReadsNumber rep order (type_shape ty.now) (spot_of ahead.entry) x.0 (spot_of x.1)) }
+{
+    match ty {
+        XType::Prim(prim) => prim_number(rep, order, *prim, ahead),
+        XType::Enum(kind) => enum_number(rep, order, kind, guide, ahead),
+        XType::Alias(kind) => read_disc(rep, order, &kind.ty, guide, ahead),
+        XType::Str(_) | XType::Mask(_) | XType::Seq(_) | XType::Array(_) => None,
+        XType::Map(_) | XType::Struct(_) | XType::Union(_) => None,
+    }
 }
 
 #[inline(always)]

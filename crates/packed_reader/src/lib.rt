@@ -13,6 +13,6 @@ mod reading;
 mod samples;
 mod values;
 
-pub use plain::may_be_plain;
+pub use plain::{may_be_plain, may_be_taped};
 pub use samples::read_plain;
-pub use values::{Numbers, OwnNumbers, Packed, PackedSlot};
+pub use values::{Numbers, OwnNumbers, Packed, PackedSlot, PackedUnion};

@@ -1,28 +1,30 @@
 // Values of octets.
 ghost use Rattle.std.specs.Prelude.{◌≡◌, ◌==◌, ◌&&◌, ℕ, true, false, List, IfSome, length, map};
-ghost use Rattle.type_trees.specs.Bridge.{shape, type_shape, members_shape, member_head};
-ghost use Rattle.type_trees.specs.View.{struct_tree};
-ghost use Rattle.xcdr_model.specs.Premises.{sound, sound_members, distinct_members};
+ghost use Rattle.type_trees.specs.Bridge.{shape, type_shape, members_shape, cases_shape, member_head};
+ghost use Rattle.type_trees.specs.View.{struct_tree, union_tree};
+ghost use Rattle.type_trees.specs.declared.types.UnionType.{out-UnionType};
+ghost use Rattle.xcdr_model.specs.Premises.{sound, sound_members, sound_cases, distinct_members};
 ghost use Rattle.xt_shapes.specs.declared.leaves.Ext.TheVariants.{Appendable, Mutable};
 ghost use Rattle.xt_shapes.specs.Shape as model;
 ghost use Rattle.xt_shapes.specs.Shape.{product};
 ghost use Rattle.xcdr_model.specs.Xcdr2Reading.{is_primitive};
-ghost use Rattle.try_construct.specs.Guides.{IsGuide, AreGuides, part_at};
+ghost use Rattle.try_construct.specs.Guides.{IsGuide, AreGuides, AreCaseGuides, TellsCases, part_at};
 ghost use Rattle.packed_reader.specs.View.{packed_val, packed_slot};
 ghost use Rattle.packed_reader.specs.Spots.{spot_of};
 ghost use Rattle.packed_reader.specs.Pieces.{ReadsPiece, ReadsPieces};
+ghost use Rattle.packed_reader.specs.Unions.{ReadsBody, ReadsUnion};
 ghost use Rattle.packed_reader.specs.Reads.{Reads, ReadsCounted, ReadsEach, ReadsMembers, ReadsSlot};
 
 use crate::ahead::Ahead;
-use crate::leaves::{read_enum, read_mask, read_presence, read_prim, read_text};
+use crate::leaves::{read_disc, read_enum, read_mask, read_presence, read_prim, read_text};
 use crate::lists::read_numbers;
 use crate::numbers::{next_region, next_word};
 use crate::pieces::next_content;
-use crate::values::{Packed, PackedSlot};
+use crate::values::{Packed, PackedSlot, PackedUnion};
 use std::alloc::Global;
 use try_construct::Guide;
 use type_trees::sizes::elements_of;
-use type_trees::{Elem, Member, StructType, XType, as_prim};
+use type_trees::{Case, Elem, Member, StructType, UnionType, XType, as_prim};
 use type_values::is_past;
 use xt_lists::Row;
 use xt_shapes::{Ext, Order, Rep};
@@ -436,6 +438,135 @@ fn read_structure<'a>(
     }
 }
 
+// The value of a case, of which some octets are there.
+#[cycle(reading)]
+#[inline(always)]
+fn read_body<'a>(
+    alloc: Global,
+    rep: Rep,
+    order: Order,
+    case: &Case,
+    guide: &Guide,
+    ahead: Ahead<'a>,
+) -> Option<(Packed<'a>, Ahead<'a>)>
+    requires sound { sound (type_shape case.now.ty) ≡ true }
+    requires guide { IsGuide (type_shape case.now.ty) guide.now }
+    ensures some { IfSome result (λ x. (length ahead.entry.rest.now == 0) ≡ false) }
+    ensures value { IfSome result (λ x. Reads rep order (type_shape case.now.ty) (spot_of ahead.entry) (packed_val x.0) (spot_of x.1)) }
+{
+    if ahead.rest.is_empty() {
+        return None;
+    }
+    let (value, behind) = read_packed(alloc, rep, order, &case.ty, guide, ahead)?;
+    Some((value, behind))
+}
+
+// The value of the case that the number selects; absent where it selects none.
+#[cycle(reading)]
+#[inline(always)]
+fn read_case<'a>(
+    alloc: Global,
+    rep: Rep,
+    order: Order,
+    cases: &[Case],
+    guide: &Guide,
+    number: i128,
+    ahead: Ahead<'a>,
+) -> Option<(PackedSlot<'a>, Ahead<'a>)>
+    requires sound { sound_cases (cases_shape cases.now) ≡ true }
+    requires tells { TellsCases (cases_shape cases.now) guide.now }
+    requires guide { AreCaseGuides (cases_shape cases.now) guide.now 1 }
+    ensures { IfSome result (λ x. ReadsBody rep order (cases_shape cases.now) number (spot_of ahead.entry) (packed_slot x.0) (spot_of x.1)) }
+{
+    let Some(at) = guide.find(cases, number) else {
+        return Some((PackedSlot::Absent, ahead));
+    };
+    let (value, behind) = read_body(alloc, rep, order, &cases[at], guide.part(at + 1), ahead)?;
+    Some((PackedSlot::Present(value), behind))
+}
+
+// The discriminator of a union, and its body behind it.
+#[cycle(reading)]
+#[inline(always)]
+fn read_selected<'a>(
+    alloc: Global,
+    rep: Rep,
+    order: Order,
+    kind: &UnionType,
+    guide: &Guide,
+    ahead: Ahead<'a>,
+) -> Option<(Packed<'a>, Ahead<'a>)>
+    requires sound { sound (shape (union_tree kind.now)) ≡ true }
+    requires guide { IsGuide (shape (union_tree kind.now)) guide.now }
+    ensures { let u = out-UnionType kind.now in IfSome result (λ x. ReadsUnion rep order (type_shape u.disc) (cases_shape u.cases) (spot_of ahead.entry) (packed_val x.0) (spot_of x.1)) }
+{
+    let (disc, inside) = read_disc(rep, order, &kind.disc, guide.part(0), ahead)?;
+    let cases = kind.cases.as_slice();
+    let (body, behind) = read_case(alloc, rep, order, cases, guide, disc, inside)?;
+    match Box::new(alloc, PackedUnion { disc, body }) {
+        Ok(value) => Some((Packed::Union(value), behind)),
+        Err(_) => None,
+    }
+}
+
+// An APPENDABLE union. In XCDR2 it has a region of its own, which is used up.
+#[cycle(reading)]
+#[inline(always)]
+fn read_region<'a>(
+    alloc: Global,
+    rep: Rep,
+    order: Order,
+    kind: &UnionType,
+    guide: &Guide,
+    ahead: Ahead<'a>,
+) -> Option<(Packed<'a>, Ahead<'a>)>
+    requires sound { sound (shape (union_tree kind.now)) ≡ true }
+    requires guide { IsGuide (shape (union_tree kind.now)) guide.now }
+    ensures { let u = out-UnionType kind.now in IfSome result (λ x. Reads rep order (model.union Appendable u.disc_key (type_shape u.disc) (cases_shape u.cases)) (spot_of ahead.entry) (packed_val x.0) (spot_of x.1)) }
+{
+    match rep {
+        Rep::Xcdr1 => {
+            let (value, behind) = read_selected(alloc, Rep::Xcdr1, order, kind, guide, ahead)?;
+            Some((value, behind))
+        }
+        Rep::Xcdr2 => {
+            let (inside, after) = next_region(order, ahead)?;
+            let (value, end) = read_selected(alloc, Rep::Xcdr2, order, kind, guide, inside)?;
+            if !end.rest.is_empty() {
+                return None;
+            }
+            Some((value, after))
+        }
+    }
+}
+
+#[cycle(reading)]
+#[inline(always)]
+fn read_union<'a>(
+    alloc: Global,
+    rep: Rep,
+    order: Order,
+    kind: &UnionType,
+    guide: &Guide,
+    ahead: Ahead<'a>,
+) -> Option<(Packed<'a>, Ahead<'a>)>
+    requires sound { sound (shape (union_tree kind.now)) ≡ true }
+    requires guide { IsGuide (shape (union_tree kind.now)) guide.now }
+    ensures { IfSome result (λ x. Reads rep order (shape (union_tree kind.now)) (spot_of ahead.entry) (packed_val x.0) (spot_of x.1)) }
+{
+    match kind.ext {
+        Ext::Final => {
+            let (value, behind) = read_selected(alloc, rep, order, kind, guide, ahead)?;
+            Some((value, behind))
+        }
+        Ext::Appendable => {
+            let (value, behind) = read_region(alloc, rep, order, kind, guide, ahead)?;
+            Some((value, behind))
+        }
+        Ext::Mutable => None,
+    }
+}
+
 /// Reads a plain value of that type from the octets ahead; in XCDR1 one that has only its own octets. Some is what the definition reads,
 /// with the octets behind it; None says nothing.
 #[cycle(reading)]
@@ -468,7 +599,8 @@ pub(crate) fn read_packed<'a>(
             ahead,
         ),
         XType::Struct(kind) => read_structure(alloc, rep, order, kind, guide, ahead),
+        XType::Union(kind) => read_union(alloc, rep, order, kind, guide, ahead),
         XType::Alias(kind) => read_packed(alloc, rep, order, &kind.ty, guide, ahead),
-        XType::Map(_) | XType::Union(_) => None,
+        XType::Map(_) => None,
     }
 }

@@ -52,9 +52,18 @@ pub enum Packed<'a> {
     List(Row<Packed<'a>>),
     /// One slot for each member, in declared order.
     Struct(Row<PackedSlot<'a>>),
+    Union(Box<PackedUnion<'a>>),
 }
 
-/// The value of a member. Only an optional member is absent.
+/// A union's value: its discriminator, and the value of the case that it selects. The body is absent where it selects none.
+#[derive(Debug, Drop)]
+#[cycle(packed)]
+pub struct PackedUnion<'a> {
+    pub disc: i128,
+    pub body: PackedSlot<'a>,
+}
+
+/// The value of a member, or of a union's case. Only an optional member is absent.
 #[derive(Debug, Drop)]
 #[cycle(packed)]
 pub enum PackedSlot<'a> {

@@ -2,8 +2,9 @@
 ghost use Rattle.std.specs.Prelude.{◌≡◌, IfSome};
 ghost use Rattle.xt_shapes.specs.declared.leaves.Order.TheVariants.{Little};
 ghost use Rattle.xt_shapes.specs.Vals as vals;
-ghost use Rattle.xcdr_model.specs.FixedSpelling.{number_fixed, text_fixed};
+ghost use Rattle.xcdr_model.specs.FixedSpelling.{number_fixed, scalar_fixed, text_fixed};
 ghost use Rattle.xcdr_model.specs.Numbers as numbers;
+ghost use Rattle.type_trees.specs.Bridge.{type_shape};
 ghost use Rattle.packed_reader.specs.View.{packed_val};
 ghost use Rattle.xcdr_writer.specs.Parts as parts;
 ghost use Rattle.xcdr_writer.specs.Parts.{presence_fixed};
@@ -12,8 +13,10 @@ ghost use Rattle.packed_writer.specs.Appending.{Appends};
 
 use crate::body::Body;
 use packed_reader::Packed;
+use type_trees::XType;
 use xcdr_writer::most_of;
 use xt_shapes::Rep;
+use xt_wire::numbers::scalar_size;
 use xt_wire::writer::raw;
 
 // The number of a value that is one.
@@ -26,19 +29,38 @@ fn number_in(value: &Packed<'_>) -> Option<i128>
         Packed::Natural(number) => Some(i128::from(*number)),
         Packed::Whole(number) => Some(i128::from(*number)),
         Packed::Text(_) => None,
-        Packed::Numbers(_) | Packed::Own(_) | Packed::List(_) | Packed::Struct(_) => None,
+        Packed::Numbers(_) | Packed::Own(_) | Packed::List(_) => None,
+        Packed::Struct(_) | Packed::Union(_) => None,
     }
 }
 
-/// A number of `size` octets: 1, 2, 4 or 8.
+/// A number, in `size` octets: 1, 2, 4 or 8.
+#[inline(always)]
+fn put_number(rep: Rep, size: u32, number: i128, out: &mut Body) -> Option<()>
+    requires { IsUnit size }
+    ensures { IfSome result (λ u. Appends (number_fixed (parts.most_of rep) Little size (numbers.raw size number)) out.old out.new) }
+{
+    out.number(most_of(rep), size, raw(size, number))
+}
+
+/// The number of a value that is one, in `size` octets: 1, 2, 4 or 8.
 #[inline(always)]
 pub(crate) fn write_scalar(rep: Rep, size: u32, value: &Packed<'_>, out: &mut Body) -> Option<()>
     requires { IsUnit size }
     ensures { let number = numbers.raw size (vals.number_in (packed_val value.now)) in
         IfSome result (λ u. Appends (number_fixed (parts.most_of rep) Little size number) out.old out.new) }
 {
-    let number = number_in(value)?;
-    out.number(most_of(rep), size, raw(size, number))
+    put_number(rep, size, number_in(value)?, out)
+}
+
+/// A union's discriminator, where its type has numbers.
+pub(crate) fn write_disc(rep: Rep, ty: &XType, disc: i128, out: &mut Body) -> Option<()>
+    ensures { IfSome result (λ u. Appends (scalar_fixed (parts.most_of rep) Little (type_shape ty.now) disc) out.old out.new) }
+{
+    match scalar_size(ty) {
+        0 => None,
+        size => put_number(rep, size, disc, out),
+    }
 }
 
 /// A count of 32 bits.
@@ -76,6 +98,7 @@ pub(crate) fn write_text(value: &Packed<'_>, out: &mut Body) -> Option<()>
     match value {
         Packed::Text(octets) => put_text(octets, out),
         Packed::Natural(_) | Packed::Whole(_) => None,
-        Packed::Numbers(_) | Packed::Own(_) | Packed::List(_) | Packed::Struct(_) => None,
+        Packed::Numbers(_) | Packed::Own(_) | Packed::List(_) => None,
+        Packed::Struct(_) | Packed::Union(_) => None,
     }
 }

@@ -25,7 +25,7 @@ fn begun(rep: Rep, ty: &XType, front: Vec<u8>) -> Option<Vec<u8>>
 }
 
 /// Appends the little-endian sample of a value in that representation: the encapsulation, its body, and zeros up to a multiple of 4, which
-/// the last option octet counts. None says nothing: it comes where value and type don't fit each other, for maps and unions, and where
+/// the last option octet counts. None says nothing: it comes where value and type don't fit each other, for maps, and where
 /// memory is wanting.
 pub fn write_plain(rep: Rep, ty: &XType, value: &Packed<'_>, front: Vec<u8>) -> Option<Vec<u8>>
     ensures { IfSome result (λ all. all.items ≡ front.items ++ fixed_sample rep Little (type_shape ty.now) (packed_val value.now)) }

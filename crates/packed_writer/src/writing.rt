@@ -8,19 +8,19 @@ ghost use Rattle.xt_shapes.specs.Vals.{Val, slots_of, present};
 ghost use Rattle.xcdr_model.specs.FixedSpelling.{fixed, fixed1, fixed_of, headed_fixed, slot_fixed, slot_fixed1, sent_fixed1, piece_fixed, param_fixed, code_of, if_present_fixed, then_fixed, end_fixed};
 ghost use Rattle.xcdr_model.specs.FixedSpelling as size_of;
 ghost use Rattle.xcdr_model.specs.Xcdr2Reading.{is_primitive};
-ghost use Rattle.type_trees.specs.Bridge.{type_shape, members_shape, member_head};
-ghost use Rattle.type_trees.specs.Parts.{structure_parts};
-ghost use Rattle.packed_reader.specs.View.{packed_val, packed_slot, numbers_of};
+ghost use Rattle.type_trees.specs.Bridge.{type_shape, members_shape, cases_shape, member_head};
+ghost use Rattle.type_trees.specs.Parts.{structure_parts, union_parts};
+ghost use Rattle.packed_reader.specs.View.{packed_val, packed_union, packed_slot, numbers_of};
 ghost use Rattle.xcdr_writer.specs.Parts as parts;
-ghost use Rattle.xcdr_writer.specs.Parts.{slot_in, piece_in, members_of, pieces_of, items_fixed, counted_items, sequence_fixed, array_fixed, structure_fixed, mutable_fixed};
+ghost use Rattle.xcdr_writer.specs.Parts.{slot_in, piece_in, members_of, pieces_of, case_of, items_fixed, counted_items, sequence_fixed, array_fixed, structure_fixed, mutable_fixed, selected_fixed, union_fixed};
 ghost use Rattle.packed_writer.specs.Appending.{Appends};
 
 use crate::body::Body;
-use crate::leaves::{put_count, put_presence, write_scalar, write_text};
+use crate::leaves::{put_count, put_presence, write_disc, write_scalar, write_text};
 use crate::numbers::write_numbers;
 use crate::params::{put_end, put_long, put_short};
-use packed_reader::{Numbers, Packed, PackedSlot};
-use type_trees::{Member, StructType, XType, as_prim};
+use packed_reader::{Numbers, Packed, PackedSlot, PackedUnion};
+use type_trees::{Case, Member, StructType, UnionType, XType, as_prim, select};
 use value_writer::{header_of, is_must, length_code};
 use xcdr_writer::{is_bare, is_short};
 use xt_shapes::{Ext, Rep};
@@ -42,7 +42,8 @@ fn count_in(value: &Packed<'_>) -> Option<u64>
         Packed::Numbers(numbers) => Some(numbers.count),
         Packed::Own(own) => Some(own.count),
         Packed::List(values) => Some(values.len() as u64),
-        Packed::Natural(_) | Packed::Whole(_) | Packed::Text(_) | Packed::Struct(_) => None,
+        Packed::Natural(_) | Packed::Whole(_) | Packed::Text(_) => None,
+        Packed::Struct(_) | Packed::Union(_) => None,
     }
 }
 
@@ -75,7 +76,8 @@ fn write_items(rep: Rep, ty: &XType, value: &Packed<'_>, out: &mut Body) -> Opti
         Packed::Numbers(numbers) => write_run(rep, ty, numbers, out),
         Packed::Own(own) => write_run(rep, ty, &own.lent(), out),
         Packed::List(values) => write_each(rep, ty, values.as_slice(), out),
-        Packed::Natural(_) | Packed::Whole(_) | Packed::Text(_) | Packed::Struct(_) => None,
+        Packed::Natural(_) | Packed::Whole(_) | Packed::Text(_) => None,
+        Packed::Struct(_) | Packed::Union(_) => None,
     }
 }
 
@@ -402,7 +404,7 @@ fn slots_in<'b, 'a>(value: &'b Packed<'a>) -> Option<&'b [PackedSlot<'a>]>
     match value {
         Packed::Struct(slots) => Some(slots.as_slice()),
         Packed::Natural(_) | Packed::Whole(_) | Packed::Text(_) => None,
-        Packed::Numbers(_) | Packed::Own(_) | Packed::List(_) => None,
+        Packed::Numbers(_) | Packed::Own(_) | Packed::List(_) | Packed::Union(_) => None,
     }
 }
 
@@ -416,6 +418,81 @@ fn write_fields(rep: Rep, kind: &StructType, value: &Packed<'_>, out: &mut Body)
         return None;
     };
     write_structure(rep, kind, slots, out)
+}
+
+// The union of a value that is one.
+#[tactic(auto, using(packed_reader::proofs::Views::packed_rules))]
+fn union_in<'b, 'a>(value: &'b Packed<'a>) -> Option<&'b PackedUnion<'a>>
+    ensures { IfSome result (λ u. packed_union u.now ≡ packed_val value.now) }
+{
+    match value {
+        Packed::Union(union) => Some(union),
+        Packed::Natural(_) | Packed::Whole(_) | Packed::Text(_) => None,
+        Packed::Numbers(_) | Packed::Own(_) | Packed::List(_) | Packed::Struct(_) => None,
+    }
+}
+
+// The value of the case with that id.
+#[cycle(writing)]
+fn write_case(rep: Rep, cases: &[Case], id: u32, value: &Packed<'_>, out: &mut Body) -> Option<()>
+    ensures { IfSome result (λ u. Appends (case_of rep Little (cases_shape cases.now) id (present (packed_val value.now))) out.old out.new) }
+{
+    for case in cases {
+        if case.id == id {
+            return write_value(rep, &case.ty, value, out);
+        }
+    }
+    None
+}
+
+// A discriminator, and the case that it selects.
+#[cycle(writing)]
+fn write_selected(rep: Rep, kind: &UnionType, union: &PackedUnion<'_>, out: &mut Body) -> Option<()>
+    ensures { let parts = union_parts kind.now in
+        IfSome result (λ u. Appends (selected_fixed rep Little parts.2 parts.3 union.now.disc (packed_slot union.now.body)) out.old out.new) }
+{
+    write_disc(rep, &kind.disc, union.disc, out)?;
+    let cases = kind.cases.as_slice();
+    match (select(cases, union.disc), &union.body) {
+        (None, PackedSlot::Absent) => Some(()),
+        (Some(id), PackedSlot::Present(value)) => write_case(rep, cases, id, value, out),
+        (None, PackedSlot::Present(_)) | (Some(_), PackedSlot::Absent) => None,
+    }
+}
+
+// An APPENDABLE union, in XCDR2 behind a count of its octets.
+#[cycle(writing)]
+fn write_appendable_union(
+    rep: Rep,
+    kind: &UnionType,
+    union: &PackedUnion<'_>,
+    out: &mut Body,
+) -> Option<()>
+    ensures { let parts = union_parts kind.now in
+        IfSome result (λ u. Appends (union_fixed rep Little Appendable parts.2 parts.3 union.now.disc (packed_slot union.now.body)) out.old out.new) }
+{
+    if is_bare(rep, false) {
+        return write_selected(rep, kind, union, out);
+    }
+    put_count(0, out)?;
+    let begin = out.len();
+    write_selected(rep, kind, union, out)?;
+    out.count_from(begin)
+}
+
+// A union, where the value is one. MUTABLE ones are left to the general writer.
+#[cycle(writing)]
+fn write_union(rep: Rep, kind: &UnionType, value: &Packed<'_>, out: &mut Body) -> Option<()>
+    ensures { let parts = union_parts kind.now in
+        let v = packed_val value.now in
+        IfSome result (λ u. Appends (union_fixed rep Little parts.0 parts.2 parts.3 (vals.disc_in v) (vals.body_in v)) out.old out.new) }
+{
+    let union = union_in(value)?;
+    match kind.ext {
+        Ext::Final => write_selected(rep, kind, union, out),
+        Ext::Appendable => write_appendable_union(rep, kind, union, out),
+        Ext::Mutable => None,
+    }
 }
 
 /// Appends the one spelling of a value in that representation, as `fixed_of` has it. None says nothing, and what was appended is to be
@@ -433,6 +510,7 @@ pub(crate) fn write_value(rep: Rep, ty: &XType, value: &Packed<'_>, out: &mut Bo
         XType::Array(kind) => write_array(rep, &kind.elem.ty, value, out),
         XType::Struct(kind) => write_fields(rep, kind, value, out),
         XType::Alias(kind) => write_value(rep, &kind.ty, value, out),
-        XType::Map(_) | XType::Union(_) => None,
+        XType::Union(kind) => write_union(rep, kind, value, out),
+        XType::Map(_) => None,
     }
 }

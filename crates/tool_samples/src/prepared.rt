@@ -7,7 +7,7 @@ use packed_json::{Plan, plan_of};
 use packed_reader::may_be_plain;
 use std::alloc::Global;
 use try_construct::Guide;
-use type_trees::XType;
+use type_trees::{XType, as_union};
 use xt_shapes::{Ext, Rep};
 use xt_wire::numbers::top_of;
 
@@ -20,9 +20,14 @@ pub struct Prepared {
     pub may_be_plain: bool,
 }
 
-// Whether samples may be plain: a parameter list has no members in a row.
+// Whether a sample is a parameter list, whose members don't stand in a row, or a union that has the rest of the sample.
+fn is_open(ty: &XType) -> bool {
+    top_of(ty) == Ext::Mutable || as_union(ty).is_some()
+}
+
+// Whether samples may be plain.
 fn samples_may_be_plain(rep: Rep, ty: &XType) -> bool {
-    if rep == Rep::Xcdr1 && top_of(ty) == Ext::Mutable {
+    if rep == Rep::Xcdr1 && is_open(ty) {
         return false;
     }
     may_be_plain(ty)

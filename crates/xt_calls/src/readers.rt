@@ -31,7 +31,7 @@ use dynamic_data::{
 };
 use json::Scratch;
 use packed_json::{read_taped, write_tree, write_value};
-use packed_reader::{Packed, may_be_plain, read_plain};
+use packed_reader::{Packed, may_be_taped, read_plain};
 use settled_parts::Outcome;
 use std::alloc::Global;
 use tool_runs::output::Stop;
@@ -149,7 +149,7 @@ impl Reader {
         };
         let ty = assignable(alloc, &pair, types.declared.as_slice(), &types.pool)?;
         let prepared = Prepared::of(alloc, pair.rep, &ty);
-        let may_be_taped = may_be_plain(&ty);
+        let may_be_taped = may_be_taped(&ty);
         let has_floats = has_floats(&ty);
         Ok(Reader {
             rep: pair.rep,

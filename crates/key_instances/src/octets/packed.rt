@@ -138,6 +138,7 @@ pub fn packed_key_octets(alloc: Global, ty: &XType, value: &Packed<'_>) -> Resul
         | Packed::Text(_)
         | Packed::Numbers(_)
         | Packed::Own(_)
-        | Packed::List(_) => octets_of_all(alloc, ty, value),
+        | Packed::List(_)
+        | Packed::Union(_) => octets_of_all(alloc, ty, value),
     }
 }

@@ -3,11 +3,11 @@ ghost use Rattle.std.specs.Prelude.{◌≡◌, IfOk, length, map};
 ghost use Rattle.xt_shapes.specs.Sizes.{size};
 ghost use Rattle.xt_shapes.specs.Vals.{vals_of, slots_of};
 ghost use Rattle.type_trees.specs.View.{val, body_val, vals, slots_val};
-ghost use Rattle.packed_reader.specs.View.{packed_val, packed_slot, number_of, numbers_of};
+ghost use Rattle.packed_reader.specs.View.{packed_val, packed_slot, packed_union, number_of, numbers_of};
 
-use packed_reader::{Numbers, Packed, PackedSlot};
+use packed_reader::{Numbers, Packed, PackedSlot, PackedUnion};
 use std::alloc::Global;
-use type_trees::{Slot, Value};
+use type_trees::{Slot, UnionValue, Value};
 use xt_lists::{OutOfMemory, Row, Text};
 use xt_shapes::{Order, Prim};
 use xt_wire::numbers::{number, prim_size, prim_value};
@@ -72,6 +72,16 @@ fn unpacked_slots(alloc: Global, slots: &[PackedSlot<'_>]) -> Result<Row<Slot>, 
     Ok(list)
 }
 
+#[cycle(unpacked)]
+#[tactic(auto, using(crate::proofs::OfOctets::Unpacked::both_rules))]
+fn unpacked_union(alloc: Global, union: &PackedUnion<'_>) -> Result<Value, OutOfMemory>
+    ensures { IfOk result (λ v. val v ≡ packed_union union.now) }
+{
+    let body = unpacked_slot(alloc, &union.body)?;
+    let disc = union.disc;
+    Ok(Value::Union(Box::new(alloc, UnionValue { disc, body })?))
+}
+
 /// The value that a packed value stands for.
 #[cycle(unpacked)]
 #[tactic(auto, using(crate::proofs::OfOctets::Unpacked::both_rules))]
@@ -86,5 +96,6 @@ pub(crate) fn unpacked(alloc: Global, value: &Packed<'_>) -> Result<Value, OutOf
         Packed::Own(own) => Ok(Value::List(unpacked_numbers(alloc, &own.lent())?)),
         Packed::List(values) => Ok(Value::List(unpacked_list(alloc, values.as_slice())?)),
         Packed::Struct(slots) => Ok(Value::Struct(unpacked_slots(alloc, slots.as_slice())?)),
+        Packed::Union(union) => unpacked_union(alloc, union),
     }
 }

@@ -1,11 +1,11 @@
 ghost use Rattle.std.specs.Prelude.{◌≡◌, is_some};
 ghost use Rattle.type_trees.specs.Bridge.{type_shape};
-ghost use Rattle.packed_reader.specs.Plain.{may_be_plain};
+ghost use Rattle.packed_reader.specs.Plain.{may_be_taped};
 ghost use Rattle.projection_laws.specs.Premises.{IsValid};
 
 use crate::values::writing::write_value;
 use json::Scratch;
-use packed_reader::may_be_plain;
+use packed_reader::may_be_taped;
 use std::alloc::Global;
 use tool_runs::output::{Payloads, Stop};
 use type_trees::XType;
@@ -23,9 +23,9 @@ pub struct Values {
 
 // What texts of the type are read from a tape with, where that may be.
 fn scratch_for(alloc: Global, ty: &XType) -> Option<Scratch>
-    ensures { is_some result ≡ may_be_plain (type_shape ty.now) }
+    ensures { is_some result ≡ may_be_taped (type_shape ty.now) }
 {
-    if may_be_plain(ty) {
+    if may_be_taped(ty) {
         Some(Scratch::new(alloc))
     } else {
         None

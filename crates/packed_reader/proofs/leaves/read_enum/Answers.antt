@@ -1,4 +1,6 @@
-use Rattle.std.proofs.Common.{map}
+use Rattle.std.proofs.Common.{map, rules}
+use Rattle.std.specs.Int.{w128}
+use Rattle.std.proofs.lemmas.Int.{to_z-of_z}
 use Rattle.type_trees.specs.Bridge.{literal_shape}
 use Rattle.packed_reader.specs.View.{packed_val}
 use Rattle.packed_reader.specs.Spots.{spot_of}
@@ -8,8 +10,6 @@ use Rattle.packed_reader.proofs.leaves.read_enum.Goals as goal
 pub returns : goal.returns
 returns c =
     let kind = c.args.kind.now in
-    let ls = map literal_shape kind.literals in
-    let n = c.in_ok-number.number in
-    let v = packed_val c.in_ok-value.value in
-    let is = rw (c.enum_size-size.ensures.size, c.as_slice.ensures) at c.in_ok-value.ensures in
-    enum_is c.args.rep c.args.order kind.ext kind.bits ls n v (spot_of c.args.ahead) (spot_of c.in_ok-number.behind) (rw c.enum_size-size.ensures.size at c.in_ok-number.ensures.value) is
+    let d = c.in_ok-number.number in
+    let is = rw (to_z-of_z w128 d (search rules)) at c.in_ok-value.ensures in
+    enum_is c.args.rep c.args.order kind.ext kind.bits (map literal_shape kind.literals) d (packed_val c.in_ok-value.value) (spot_of c.args.ahead) (spot_of c.in_ok-number.behind) c.in_ok-number.ensures is

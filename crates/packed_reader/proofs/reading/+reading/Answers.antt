@@ -1,10 +1,14 @@
 use Rattle.std.proofs.Common.{◌≡◌, ◌++◌, ◌∷◌, [], refl, sym, ap, ◌∙◌, length, map, rules, arith, ℕ, ◌+◌, length-append}
 use Rattle.std.proofs.lemmas.List.{map-append, length-map}
 use denote.Param.Weighed.{at_most}
+use Rattle.std.specs.Int.{w128}
+use Rattle.std.proofs.lemmas.Int.{to_z-of_z}
+use Rattle.type_trees.proofs.types.Case.TheLaws as case_laws
 use Rattle.type_trees.proofs.types.Member.TheLaws as member_laws
+use Rattle.type_trees.specs.declared.types.UnionType.{out-UnionType}
 use Rattle.xt_shapes.specs.declared.leaves.Ext.TheVariants.{Final, Appendable, Mutable}
 use Rattle.xt_shapes.specs.Shape.{product}
-use Rattle.type_trees.specs.Bridge.{type_shape, members_shape, member_head}
+use Rattle.type_trees.specs.Bridge.{type_shape, members_shape, cases_shape, member_head}
 use Rattle.packed_reader.specs.View.{packed_val, packed_slot}
 use Rattle.packed_reader.proofs.Views.{packed_absent, packed_present, packed_struct, packed_numbers, packed_list}
 use Rattle.packed_reader.specs.Spots.{spot_of}
@@ -14,6 +18,7 @@ use Rattle.packed_reader.proofs.ListSteps.{items_first, item_next, items_end, is
 use Rattle.packed_reader.proofs.MemberSteps.{sound_here, sound_more, guide_here, slot_here, slot_present, slot_absent, members_first, one_more_taken, one_more_left, members_end}
 use Rattle.packed_reader.proofs.PieceSteps.{pieces_first, piece_taken, piece_left, pieces_end}
 use Rattle.packed_reader.proofs.KindSteps.{struct_is, final_is, appendable_in, appendable_of, mutable_of}
+use Rattle.packed_reader.proofs.UnionSteps as unions
 use Rattle.packed_reader.proofs.reading.+reading.Goals as goal
 
 -- ---- sequences and arrays
@@ -238,3 +243,45 @@ pub read_structure-returns-in_ok-value-in-Mutable : goal.read_structure-returns-
 read_structure-returns-in_ok-value-in-Mutable t c =
     let v = c.in_ok-value-in-Mutable in
     struct_is c.args.rep c.args.kind.now Mutable c.as_slice-members.result.now c.args.order (packed_val v.value) (spot_of c.args.ahead) (spot_of v.behind) c.in-Mutable.is (sym c.as_slice-members.ensures) v.ensures
+
+-- ---- unions
+
+pub read_case-returns-in_default : goal.read_case-returns-in_default
+read_case-returns-in_default t c =
+    let none = rw (to_z-of_z w128 c.args.number (search rules)) at c.in_default.ensures.position in
+    rw packed_absent (unions.no_case_is c.args.rep c.args.order (cases_shape c.args.cases.now) c.args.number (spot_of c.args.ahead) none)
+
+pub read_case-read_body-requires : goal.read_case-read_body-requires
+read_case-read_body-requires t c =
+    let cs = c.args.cases.now in
+    let case = c.index-cases-at.result in
+    let within = c.in-Some.ensures.within in
+    let fine = unions.case_sound cs c.in-Some.at case c.requires.sound within c.index-cases-at.is in
+    let guided = unions.case_guided cs c.args.guide.now c.part.result.now c.in-Some.at case c.requires.guide within c.index-cases-at.is c.part.ensures in
+    let smaller = rw (← c.index-cases-at.is) at (at_most case_laws.the_size cs c.in-Some.at case within) in
+    search rules
+
+pub read_case-returns : goal.read_case-returns
+read_case-returns t c =
+    let v = c.in_ok-value in
+    let at = rw (to_z-of_z w128 c.args.number (search rules)) at c.in-Some.ensures.position in
+    rw (packed_present v.value) (unions.case_is c.args.rep c.args.order c.args.cases.now c.args.number c.in-Some.at c.index-cases-at.result (packed_val v.value) (spot_of c.args.ahead) (spot_of v.behind) at c.index-cases-at.is v.ensures.some v.ensures.value)
+
+pub read_region-returns-in_ok-value-in-Xcdr1 : goal.read_region-returns-in_ok-value-in-Xcdr1
+read_region-returns-in_ok-value-in-Xcdr1 t c =
+    let u = out-UnionType c.args.kind.now in
+    let v = c.in_ok-value-in-Xcdr1 in
+    rw c.in-Xcdr1.is (unions.appendable_in c.args.order u.disc_key (type_shape u.disc) (cases_shape u.cases) (packed_val v.value) (spot_of c.args.ahead) (spot_of v.behind) v.ensures)
+
+pub read_region-returns-else-not-is_empty : goal.read_region-returns-else-not-is_empty
+read_region-returns-else-not-is_empty t c =
+    let u = out-UnionType c.args.kind.now in
+    let r = c.in_ok-inside-in-Xcdr2 in
+    let v = c.in_ok-value-in-Xcdr2 in
+    rw c.in-Xcdr2.is (unions.appendable_of c.args.order u.disc_key (type_shape u.disc) (cases_shape u.cases) (packed_val v.value) (spot_of c.args.ahead) (spot_of r.inside) (spot_of r.after) (spot_of v.end) r.ensures v.ensures (empty_is v.end.rest.now (sym c.is_empty.ensures ∙ c.if-not-is_empty.false)))
+
+pub read_union-returns-in_ok-value-in-Final : goal.read_union-returns-in_ok-value-in-Final
+read_union-returns-in_ok-value-in-Final t c =
+    let u = out-UnionType c.args.kind.now in
+    let v = c.in_ok-value-in-Final in
+    unions.union_is c.args.rep c.args.kind.now Final c.args.order (packed_val v.value) (spot_of c.args.ahead) (spot_of v.behind) c.in-Final.is (unions.final_is c.args.rep c.args.order u.disc_key (type_shape u.disc) (cases_shape u.cases) (packed_val v.value) (spot_of c.args.ahead) (spot_of v.behind) v.ensures)

@@ -1,24 +1,26 @@
-use Rattle.std.proofs.Common.{◌≡◌, ◌∙◌, ◌-◌, refl, sym, ap, ℕ, ◌+◌, ◌*◌, ◌^◌, map, drop, true, false, Bool, arith, cond, nat_lt, length}
+use Rattle.std.specs.Int.{w128}
+use Rattle.std.proofs.lemmas.Int.{to_z-of_z}
+use Rattle.std.proofs.Common.{◌≡◌, ◌∙◌, ◌-◌, rules, refl, sym, ap, ℕ, ◌+◌, ◌*◌, ◌^◌, map, drop, true, false, Bool, arith, cond, nat_lt, length, Option, Some, None}
 use Rattle.xt_shapes.specs.declared.leaves.Order.TheVariants.{Little}
 use Rattle.xt_shapes.specs.declared.leaves.Rep.TheVariants.{Xcdr1, Xcdr2}
 use Rattle.xt_shapes.specs.Select as selects
 use Rattle.xt_shapes.specs.Sizes.{enum_size, mask_size}
 use Rattle.xt_shapes.specs.Vals.{Val, absent, present, items_in, slots_of, number_in}
-use Rattle.xcdr_model.specs.FixedSpelling.{nothing, fixed, fixed1, fixed_of, then_fixed, number_fixed, headed_fixed, slot_fixed, piece_fixed, code_of, scalar_size, if_present_fixed, end_fixed}
+use Rattle.xcdr_model.specs.FixedSpelling.{nothing, fixed, fixed1, fixed_of, then_fixed, number_fixed, headed_fixed, slot_fixed, piece_fixed, code_of, scalar_size, if_present_fixed, if_selected_fixed, scalar_fixed, end_fixed}
 use Rattle.xcdr_model.specs.Numbers.{raw}
 use Rattle.xcdr_model.specs.Xcdr2Reading.{is_primitive}
 use Rattle.xcdr_model.specs.Xcdr2Spelling.{bit}
 use Rattle.type_trees.specs.Bridge.{type_shape, members_shape, member_head}
-use Rattle.type_trees.specs.Parts.{structure_parts}
+use Rattle.type_trees.specs.Parts.{structure_parts, union_parts}
 use Rattle.type_trees.specs.declared.types.EnumType.{EnumType}
 use Rattle.type_trees.specs.declared.types.MaskType.{MaskType}
 use Rattle.packed_reader.specs.View.{packed_val, packed_slot, numbers_of, own_numbers}
 use Rattle.packed_reader.proofs.Views.{packed_absent, packed_present}
-use Rattle.xcdr_writer.specs.Parts.{most_of, is_bare, slot_in, piece_in, members_of, pieces_of, items_fixed, counted_items, structure_fixed, presence_fixed, is_short}
+use Rattle.xcdr_writer.specs.Parts.{most_of, is_bare, slot_in, piece_in, members_of, pieces_of, case_of, items_fixed, counted_items, structure_fixed, selected_fixed, presence_fixed, is_short}
 use Rattle.xcdr_writer.proofs.SizeSteps as steps
 use Rattle.xcdr_writer.proofs.Chains.{no_piece, slot_parts}
 use Rattle.xcdr_writer.proofs.ParamSteps.{plain_slot, optional_param}
-use Rattle.packed_writer.proofs.Appending.{begins, onward, ends, last, none, same, some_as, some_counted, apart, short_param, long_param}
+use Rattle.packed_writer.proofs.Appending.{begins, onward, ends, two, last, none, same, some_as, some_counted, apart, short_param, long_param}
 use Rattle.packed_writer.proofs.Values.{items_of_numbers, items_of_own, items_of_list, next_packed, no_more_packed, members_step, members_end, pieces_step, pieces_end, absent_slot}
 use Rattle.packed_writer.proofs.writing.+writing.Goals as goal
 
@@ -248,6 +250,53 @@ write_params-returns t c =
     let ss = slots_of (map packed_slot c.args.slots.now) in
     last c.put_end.result c.put_end.new.out (then_fixed (pieces_of Xcdr1 Little ms ss) (end_fixed Little)) (pieces_of Xcdr1 Little ms ss) (end_fixed Little) (λ p. refl) c.in_ok-write_pieces.ensures c.put_end.ensures
 
+-- ---- unions
+
+pub write_case-loop-case-init : goal.write_case-loop-case-init
+write_case-loop-case-init t c = (refl, refl)
+
+pub write_case-loop-case-preserved : goal.write_case-loop-case-preserved
+write_case-loop-case-preserved t c =
+    (sym (steps.case_next c.args.rep Little c.args.cases.now c.loop-case.case-index c.args.id c.case-item.result (present (packed_val c.args.value.now)) c.loop-case-test.true c.case-item.is c.if-case-id.false) ∙ c.loop-case.invariant.0, c.loop-case.invariant.1)
+
+pub write_case-returns-then-case-id : goal.write_case-returns-then-case-id
+write_case-returns-then-case-id t c =
+    let s = present (packed_val c.args.value.now) in
+    some_as c.write_value.result c.args.out.now c.write_value.new.out _ _ (sym c.loop-case.invariant.0 ∙ steps.case_here c.args.rep Little c.args.cases.now c.loop-case.case-index c.args.id c.case-item.result s c.loop-case-test.true c.case-item.is c.if-case-id.true) (rw c.loop-case.invariant.1 at c.write_value.ensures)
+
+pub write_selected-returns-in-None-Absent : goal.write_selected-returns-in-None-Absent
+write_selected-returns-in-None-Absent t c =
+    let r = c.args.rep in
+    let parts = union_parts c.args.kind.now in
+    let u = c.args.union.now in
+    let begun = rw (to_z-of_z w128 u.disc (search rules)) at c.in_ok-write_disc.ensures in
+    let selected = λ (k : Option ℕ). if_selected_fixed k (λ j. case_of r Little parts.3 j (packed_slot u.body)) in
+    let none_selected : selects.select parts.3 u.disc ≡ None = search rules in
+    two (scalar_fixed (most_of r) Little parts.2 u.disc) (selected (selects.select parts.3 u.disc)) begun (same (selected (selects.select parts.3 u.disc)) nothing (λ p. ap (λ k. selected k p) none_selected) (none c.write_disc.new.out))
+
+pub write_selected-returns-in-Some-Present : goal.write_selected-returns-in-Some-Present
+write_selected-returns-in-Some-Present t c =
+    let r = c.args.rep in
+    let parts = union_parts c.args.kind.now in
+    let u = c.args.union.now in
+    let begun = rw (to_z-of_z w128 u.disc (search rules)) at c.in_ok-write_disc.ensures in
+    let id = c.in-Some-Present.id in
+    let v = packed_val c.in-Some-Present.value in
+    let selected = λ (k : Option ℕ). if_selected_fixed k (λ j. case_of r Little parts.3 j (packed_slot u.body)) in
+    let this_selected : selects.select parts.3 u.disc ≡ Some id = search rules in
+    let there : packed_slot u.body ≡ present v = ap packed_slot c.in-Some-Present.is-1 ∙ packed_present c.in-Some-Present.value in
+    let spelled : selected (selects.select parts.3 u.disc) ≡ case_of r Little parts.3 id (present v) = ap selected this_selected ∙ ap (λ s. case_of r Little parts.3 id s) there in
+    let written = some_as c.write_case.result c.write_disc.new.out c.write_case.new.out _ _ spelled (rw c.as_slice-cases.ensures at c.write_case.ensures) in
+    last c.write_case.result c.write_case.new.out (selected_fixed r Little parts.2 parts.3 u.disc (packed_slot u.body)) (scalar_fixed (most_of r) Little parts.2 u.disc) (selected (selects.select parts.3 u.disc)) (λ p. refl) begun written
+
+pub write_appendable_union-returns : goal.write_appendable_union-returns
+write_appendable_union-returns t c =
+    let r = c.args.rep in
+    let counted : is_bare r false ≡ false = sym c.is_bare.ensures ∙ c.if-is_bare.false in
+    let parts = union_parts c.args.kind.now in
+    let u = c.args.union.now in
+    rw counted (some_counted c.count_from.result c.count_from.new.self (selected_fixed r Little parts.2 parts.3 u.disc (packed_slot u.body)) c.len-begin.result c.len-begin.ensures c.in_ok-put_count.ensures c.in_ok-write_selected.ensures c.count_from.ensures)
+
 -- ---- values
 
 pub write_value-returns-in-Str : goal.write_value-returns-in-Str
@@ -275,3 +324,6 @@ write_value-returns-in-Enum t c = some_as c.write_scalar-in-Enum.result c.args.o
 
 pub write_value-returns-in-Mask : goal.write_value-returns-in-Mask
 write_value-returns-in-Mask t c = some_as c.write_scalar-in-Mask.result c.args.out.now c.write_scalar-in-Mask.new.out _ _ (steps.spelled_mask c.args.rep Little c.args.ty.now c.in-Mask.kind (packed_val c.args.value.now) c.in-Mask.is ∙ ap (λ (k : ℕ). number_fixed (most_of c.args.rep) Little k (raw k (number_in (packed_val c.args.value.now)))) (sym (c.mask_size.ensures.size ∙ ap (λ (k : MaskType). mask_size k.bits) c.deref-in-Mask.ensures))) c.write_scalar-in-Mask.ensures
+
+pub write_value-returns-in-Union : goal.write_value-returns-in-Union
+write_value-returns-in-Union t c = some_as c.write_union.result c.args.out.now c.write_union.new.out _ _ (steps.spelled_union c.args.rep Little c.args.ty.now c.in-Union.kind (packed_val c.args.value.now) c.in-Union.is) (rw c.deref-in-Union.ensures at c.write_union.ensures)
