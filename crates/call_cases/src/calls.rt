@@ -110,7 +110,7 @@ fn typed(alloc: Global, case: &Case<'_>) -> Result<Answer, Trouble> {
     if as_map(&ty).is_none() {
         return Ok(Answer::is(has_type(&ty, &value)));
     }
-    let map = Box::new(alloc, Value::Map(pairs_of(alloc, value)?))?;
+    let map = Box::new(alloc, Value::Map(pairs_of(alloc, &value)?))?;
     Ok(Answer::is(has_type(&ty, &map)))
 }
 
@@ -174,7 +174,8 @@ fn base(alloc: Global, case: &Case<'_>) -> Result<Answer, Trouble> {
 
 /// Whether two pairs have one key.
 fn same_keys(alloc: Global, case: &Case<'_>) -> Result<Answer, Trouble> {
-    let pairs = pairs_of(alloc, given_value(alloc, case)?)?;
+    let value = given_value(alloc, case)?;
+    let pairs = pairs_of(alloc, &value)?;
     Ok(Answer::is(has_same_keys(alloc, pairs.as_slice())?))
 }
 

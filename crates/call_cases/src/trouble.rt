@@ -9,7 +9,7 @@ use xt_idl::IdlFault;
 use xt_lists::OutOfMemory;
 
 /// Why a call has no answer. It is printed in the answer's place.
-#[derive(Debug, Drop, Error)]
+#[derive(Debug, Error)]
 pub enum Trouble {
     /// The text declares no types, a type breaks a rule, or the JSON gives no value.
     #[error("{0}")]
@@ -25,6 +25,19 @@ pub enum Trouble {
     Size,
     #[error("out of memory")]
     OutOfMemory,
+}
+
+// By hand, so that it is one step wherever one is let go.
+impl Drop for Trouble {
+    fn drop(self) {
+        match self {
+            Trouble::Faulty(_) => {}
+            Trouble::Hex => {}
+            Trouble::Words => {}
+            Trouble::Size => {}
+            Trouble::OutOfMemory => {}
+        }
+    }
 }
 
 impl Trouble {

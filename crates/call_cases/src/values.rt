@@ -121,10 +121,21 @@ fn listed_pairs(alloc: Global, items: &[Value]) -> Result<Row<Pair>, Trouble> {
     Ok(pairs)
 }
 
+fn copied_pairs(alloc: Global, pairs: &[Pair]) -> Result<Row<Pair>, Trouble> {
+    let mut copy = Row::new(alloc);
+    for pair in pairs {
+        copy.push(Pair {
+            key: copy_value(alloc, &pair.key)?,
+            value: copy_value(alloc, &pair.value)?,
+        })?;
+    }
+    Ok(copy)
+}
+
 /// The pairs of a map, or those that a list stands for: in no map that JSON gives does a key come again.
-pub fn pairs_of(alloc: Global, value: Box<Value>) -> Result<Row<Pair>, Trouble> {
-    match Box::into_inner(value) {
-        Value::Map(pairs) => Ok(pairs),
+pub fn pairs_of(alloc: Global, value: &Value) -> Result<Row<Pair>, Trouble> {
+    match value {
+        Value::Map(pairs) => copied_pairs(alloc, pairs.as_slice()),
         Value::List(items) => listed_pairs(alloc, items.as_slice()),
         _ => Err(Trouble::Words),
     }

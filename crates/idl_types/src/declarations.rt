@@ -48,13 +48,26 @@ pub struct UnionDefinition {
 }
 
 /// What a definition says besides the type's name.
-#[derive(Debug, Drop)]
+#[derive(Debug)]
 pub enum Definition {
     Enum(EnumType),
     Mask(MaskType),
     Struct(StructDefinition),
     Union(UnionDefinition),
     Alias(Used),
+}
+
+// By hand, so that it is proved here once, and not in each crate that lets one go.
+impl Drop for Definition {
+    fn drop(self) {
+        match self {
+            Definition::Enum(_) => {}
+            Definition::Mask(_) => {}
+            Definition::Struct(_) => {}
+            Definition::Union(_) => {}
+            Definition::Alias(_) => {}
+        }
+    }
 }
 
 /// A type that a text declares, under its full name.

@@ -18,7 +18,7 @@ use xt_lists::{Row, Text};
 use xt_shapes::Prim;
 
 /// How values of a type are written.
-#[derive(Debug, Drop)]
+#[derive(Debug)]
 #[cycle(plan)]
 pub enum Plan {
     Prim(Prim),
@@ -34,6 +34,23 @@ pub enum Plan {
     Struct(Row<PlannedMember>),
     /// The discriminator of a union and the value of the case that it selects.
     Union(Box<PlannedUnion>),
+}
+
+// By hand, so that it is proved here once, and not in each crate that lets one go.
+impl Drop for Plan {
+    #[cycle(dropping)]
+    fn drop(self) {
+        match self {
+            Plan::Prim(_) => {}
+            Plan::Text => {}
+            Plan::Mask => {}
+            Plan::Enum(_) => {}
+            Plan::List(_) => {}
+            Plan::Map(_) => {}
+            Plan::Struct(_) => {}
+            Plan::Union(_) => {}
+        }
+    }
 }
 
 /// How the keys of a map are written, and how the values.

@@ -1,4 +1,4 @@
--- Unions of which nothing has to be settled (DDS-XTypes 1.3, 7.4.3.5.3 and 7.4.1; that nothing is settled is this profile's own).
+-- Unions of which nothing has to be settled (DDS-XTypes 1.3, 7.4.3.5 and 7.4.1; that nothing is settled is this profile's own).
 use Rattle.std.specs.Prelude.{◌≡◌, ℕ, ℤ, Bool, ◌==◌, false, Some, None, Ok, length}
 use Rattle.xt_shapes.specs.declared.leaves.Order.{Order}
 use Rattle.xt_shapes.specs.declared.leaves.Rep.{Rep}

@@ -165,8 +165,9 @@ fn read_body<'a>(
 
 /// Reads a whole sample in that representation, in either byte order, where it is plain (DDS-XTypes 1.3, 7.6.3.1.2): the members stand in
 /// declared order, and nothing has to be settled or filled in. What stands behind the members of an APPENDABLE structure is passed over. In
-/// XCDR1 no member is a parameter. Some is what the definition reads. None says nothing: the general reader tells. Memory that is wanting is
-/// None, too. Literals are found in logarithmic time where the guide knows them; `Guide::of(alloc, ty)` makes such a guide.
+/// XCDR1 no member is a parameter, and a union by itself isn't plain. Some is what the definition reads. None says nothing: the general
+/// reader tells. Memory that is wanting is None, too. Literals are found in logarithmic time where the guide knows them; `Guide::of(alloc,
+/// ty)` makes such a guide.
 pub fn read_plain<'a>(
     alloc: Global,
     rep: Rep,

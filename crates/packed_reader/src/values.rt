@@ -37,7 +37,7 @@ impl OwnNumbers {
 }
 
 /// A value over the octets that it was read from.
-#[derive(Debug, Drop)]
+#[derive(Debug)]
 #[cycle(packed)]
 pub enum Packed<'a> {
     Natural(u64),
@@ -53,6 +53,23 @@ pub enum Packed<'a> {
     /// One slot for each member, in declared order.
     Struct(Row<PackedSlot<'a>>),
     Union(Box<PackedUnion<'a>>),
+}
+
+// By hand, so that it is proved here once, and not in each crate that lets one go.
+impl Drop for Packed<'_> {
+    #[cycle(dropping)]
+    fn drop(self) {
+        match self {
+            Packed::Natural(_) => {}
+            Packed::Whole(_) => {}
+            Packed::Text(_) => {}
+            Packed::Numbers(_) => {}
+            Packed::Own(_) => {}
+            Packed::List(_) => {}
+            Packed::Struct(_) => {}
+            Packed::Union(_) => {}
+        }
+    }
 }
 
 /// A union's value: its discriminator, and the value of the case that it selects. The body is absent where it selects none.

@@ -13,11 +13,21 @@ use xt_wire::numbers::top_of;
 
 /// What is made of a reader's type once: how its values are written, if it has a plan; where its literals and cases are found; and whether its
 /// samples in a representation may be plain.
-#[derive(Drop)]
 pub struct Prepared {
     pub plan: Option<Plan>,
     pub guide: Guide,
     pub may_be_plain: bool,
+}
+
+// By hand, so that it is proved here once, and not in each crate that lets one go.
+impl Drop for Prepared {
+    fn drop(self) {
+        let Prepared {
+            plan: _,
+            guide: _,
+            may_be_plain: _,
+        } = self;
+    }
 }
 
 // Whether a sample is a parameter list, whose members don't stand in a row, or a union that has the rest of the sample.

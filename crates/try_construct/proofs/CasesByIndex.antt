@@ -1,8 +1,7 @@
 -- The cases of a union by their index.
-use Rattle.std.proofs.Common.{◌≡◌, refl, ap, ◌∙◌, ℕ, ℤ, zero, suc, ◌+◌, ◌<◌, ◌≤◌, ◌≢◌, List, [], ◌∷◌, length, drop, get_or, drop_of_length-le, Option, Some, None, IfSome, is_some, cond, Bool, true, false, ◌==◌, arith, eq-eqb}
+use Rattle.std.proofs.Common.{◌≡◌, refl, ap, ◌∙◌, ℕ, ℤ, zero, suc, ◌+◌, ◌<◌, ◌≤◌, List, [], ◌∷◌, length, drop, get_or, drop_of_length-le, Option, Some, None, IfSome, is_some, cond, Bool, true, false, ◌==◌, arith, eq-eqb}
 use Rattle.std.specs.Option.{option_map, option_and_then}
 use Rattle.std.specs.Ordering.{int_eq}
-use Rattle.std.proofs.lemmas.Bool.{ne_eqb}
 use Rattle.std.proofs.lemmas.List.{at_drop_more}
 use Rattle.xt_shapes.specs.Lists.{has, or_else}
 use Rattle.xt_shapes.specs.Select.{labelled, default_case, select}
@@ -24,22 +23,9 @@ abbrev pub shifted : ℕ → Option ℕ → Option ℕ
 shifted n None = None
 shifted n (Some i) = Some (n + i)
 
-pub shifted_one : (n : ℕ) (o : Option ℕ) → shifted n (option_map (λ i. suc i) o) ≡ shifted (n + 1) o
-shifted_one n None = refl
-shifted_one n (Some i) = ap (λ (k : ℕ). Some k) (omega arith)
-
 pub shifted_none : (o : Option ℕ) → o ≡ shifted 0 o
 shifted_none None = refl
 shifted_none (Some i) = ap (λ (k : ℕ). Some k) (omega arith)
-
-pub case_here : (cs : List Case) (i id : ℕ) (d : Case) → i < length cs → (get_or cs i d).id ≡ id → shifted i (case_index (cases_shape (drop i cs)) id) ≡ Some i
-case_here cs i id d within is = rw (next_case cs i d within, eq-eqb _ _ is) (ap (λ (k : ℕ). Some k) (omega arith))
-
-pub case_further : (cs : List Case) (i id : ℕ) (d : Case) → i < length cs → (get_or cs i d).id ≢ id → shifted i (case_index (cases_shape (drop i cs)) id) ≡ shifted (i + 1) (case_index (cases_shape (drop (i + 1) cs)) id)
-case_further cs i id d within other = rw (next_case cs i d within, ne_eqb _ _ other) (shifted_one i (case_index (cases_shape (drop (i + 1) cs)) id))
-
-pub case_nowhere : (cs : List Case) (i id : ℕ) → length cs ≤ i → shifted i (case_index (cases_shape (drop i cs)) id) ≡ None
-case_nowhere cs i id le = rw (no_case_left cs i le) refl
 
 inside_more : (n : ℕ) (b : Bool) (x : Option ℕ) → IfSome x (λ i. i < n) → IfSome (cond b (Some 0) (option_map (λ i. suc i) x)) (λ i. i < suc n)
 inside_more n true x lt = omega arith

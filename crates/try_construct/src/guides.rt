@@ -46,11 +46,19 @@ pub enum Known {
 /// What is known of a type and of its parts. A collection's element is its part 0, as a map's key is, whose value is 1; a structure's members are
 /// its parts by their positions; a union's discriminator is its part 0, and its cases are those from 1 on. A part that is not held knows
 /// what the whole does, which is nothing of the part.
-#[derive(Debug, Drop)]
+#[derive(Debug)]
 #[cycle(guide)]
 pub struct Guide {
     pub(crate) known: Known,
     pub(crate) parts: Row<Guide>,
+}
+
+// By hand, so that it is proved here once, and not in each crate that lets one go.
+impl Drop for Guide {
+    #[cycle(dropping)]
+    fn drop(self) {
+        let Guide { known: _, parts: _ } = self;
+    }
 }
 
 // The position of the first case with that id.

@@ -25,10 +25,19 @@ const MOST: usize = 4_096;
 const LONGEST: usize = 131_072;
 
 /// Objects by their identifiers, at most 4,096, in the order in which they came. A look-up goes by the identifier's hash.
-#[derive(Drop)]
 pub struct Pool {
     alloc: Global,
     entries: IndexMap<HashId, Entry>,
+}
+
+// By hand, so that it is proved here once, and not in each crate that lets one go.
+impl Drop for Pool {
+    fn drop(self) {
+        let Pool {
+            alloc: _,
+            entries: _,
+        } = self;
+    }
 }
 
 impl Model for Pool {

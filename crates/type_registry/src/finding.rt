@@ -13,12 +13,23 @@ use type_trees::HashId;
 
 /// An object that was found in a registry. Contracts see its registry, its identifier, its octets, and its trail: what the earlier
 /// probed cells of the identifier hold. The cell that holds it is the probed cell behind those.
-#[derive(Drop)]
 pub struct Finding<'r, N: Naming> {
     pub(crate) path: Path<'r, N>,
     pub(crate) entry: &'r Entry<N>,
     pub(crate) level: Knowledge<Level<N>>,
     pub(crate) cell: Knowledge<Entry<N>>,
+}
+
+// By hand, so that it is proved here once, and not in each crate that lets one go.
+impl<N: Naming> Drop for Finding<'_, N> {
+    fn drop(self) {
+        let Finding {
+            path: _,
+            entry: _,
+            level: _,
+            cell: _,
+        } = self;
+    }
 }
 
 impl<'r, N: Naming> Model for Finding<'r, N> {

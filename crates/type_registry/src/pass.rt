@@ -14,11 +14,21 @@ use xt_lists::OutOfMemory;
 
 /// What one thread knows of a registry: findings by their identifiers, and the identifiers whose 64 probed cells are all full, each
 /// with another one. Cells never change once they are full, so both stay true.
-#[derive(Drop)]
 pub struct Pass<'r, N: Naming> {
     registry: &'r Registry<N>,
     found: ById<Finding<'r, N>>,
     full: ById<Strangers<'r, N>>,
+}
+
+// By hand, so that it is proved here once, and not in each crate that lets one go.
+impl<N: Naming> Drop for Pass<'_, N> {
+    fn drop(self) {
+        let Pass {
+            registry: _,
+            found: _,
+            full: _,
+        } = self;
+    }
 }
 
 impl<'r, N: Naming> Model for Pass<'r, N> {

@@ -52,10 +52,16 @@ pub struct Seen<'a> {
 }
 
 /// What the probed cells of an identifier hold, in order, where each of the 64 holds another one.
-#[derive(Drop)]
 pub struct Trail<'r, N: Naming> {
     path: Path<'r, N>,
     seen: Vec<&'r Entry<N>>,
+}
+
+// By hand, so that it is proved here once, and not in each crate that lets one go.
+impl<N: Naming> Drop for Trail<'_, N> {
+    fn drop(self) {
+        let Trail { path: _, seen: _ } = self;
+    }
 }
 
 impl<'r, N: Naming> Model for Trail<'r, N> {

@@ -2,7 +2,7 @@ use xt_lists::{Row, Text};
 use xt_shapes::{Ext, Primitive, Try};
 
 /// The name of a member, case, literal or flag.
-#[derive(Debug, Drop)]
+#[derive(Debug)]
 pub enum Name {
     /// The name in full.
     Full(Text),
@@ -11,7 +11,7 @@ pub enum Name {
 }
 
 /// A type (DDS-XTypes 1.3, 7.2.2). A type that came from a minimal TypeObject has no name.
-#[derive(Debug, Drop)]
+#[derive(Debug)]
 #[cycle(types)]
 pub enum XType {
     Prim(Primitive),
@@ -36,7 +36,7 @@ pub struct Elem {
 }
 
 /// A literal of an enumeration.
-#[derive(Debug, Drop)]
+#[derive(Debug)]
 pub struct Literal {
     pub name: Name,
     pub value: i32,
@@ -44,14 +44,14 @@ pub struct Literal {
 }
 
 /// A flag of a bitmask.
-#[derive(Debug, Drop)]
+#[derive(Debug)]
 pub struct Flag {
     pub name: Name,
     pub position: u8,
 }
 
 /// An enumeration (7.2.2.4.1). Its values are held in 1, 2 or 4 octets, by its bits.
-#[derive(Debug, Drop)]
+#[derive(Debug)]
 pub struct EnumType {
     pub name: Option<Text>,
     pub ext: Ext,
@@ -60,7 +60,7 @@ pub struct EnumType {
 }
 
 /// A bitmask (7.2.2.4.1). Its values are held in 1, 2, 4 or 8 octets, by its bits.
-#[derive(Debug, Drop)]
+#[derive(Debug)]
 pub struct MaskType {
     pub name: Option<Text>,
     pub bits: u8,
@@ -68,7 +68,7 @@ pub struct MaskType {
 }
 
 /// A sequence (7.2.2.4.3); a bound of 0 is none.
-#[derive(Debug, Drop)]
+#[derive(Debug)]
 #[cycle(types)]
 pub struct SeqType {
     pub bound: u32,
@@ -76,7 +76,7 @@ pub struct SeqType {
 }
 
 /// An array (7.2.2.4.3), whose elements stand in row-major order.
-#[derive(Debug, Drop)]
+#[derive(Debug)]
 #[cycle(types)]
 pub struct ArrayType {
     pub dims: Row<u32>,
@@ -84,7 +84,7 @@ pub struct ArrayType {
 }
 
 /// A map (7.2.2.4.3); a bound of 0 is none.
-#[derive(Debug, Drop)]
+#[derive(Debug)]
 #[cycle(types)]
 pub struct MapType {
     pub bound: u32,
@@ -106,7 +106,7 @@ pub struct Member {
 }
 
 /// A base of a structure: the structure with this name that has its first `count` members.
-#[derive(Debug, Drop)]
+#[derive(Debug)]
 pub struct Base {
     pub name: Option<Text>,
     pub nested: bool,
@@ -115,7 +115,7 @@ pub struct Base {
 }
 
 /// A structure (7.2.2.4.4), with the members of its bases first. The outermost base stands first.
-#[derive(Debug, Drop)]
+#[derive(Debug)]
 #[cycle(types)]
 pub struct StructType {
     pub name: Option<Text>,
@@ -127,7 +127,7 @@ pub struct StructType {
 }
 
 /// A case of a union: a member that its labels select, or the default (7.2.2.4.4).
-#[derive(Debug, Drop)]
+#[derive(Debug)]
 #[cycle(types)]
 pub struct Case {
     pub id: u32,
@@ -139,7 +139,7 @@ pub struct Case {
 }
 
 /// A union (7.2.2.4.4).
-#[derive(Debug, Drop)]
+#[derive(Debug)]
 #[cycle(types)]
 pub struct UnionType {
     pub name: Option<Text>,
@@ -152,7 +152,7 @@ pub struct UnionType {
 }
 
 /// An alias (7.2.2.4.2).
-#[derive(Debug, Drop)]
+#[derive(Debug)]
 #[cycle(types)]
 pub struct AliasType {
     pub name: Option<Text>,
@@ -172,4 +172,158 @@ pub struct Named {
 pub struct HashId {
     pub kind: u8,
     pub hash: [u8; 14],
+}
+
+// How types are let go: by hand, so that it is proved here once, and not in each crate that lets one go.
+impl Drop for Name {
+    fn drop(self) {
+        match self {
+            Name::Full(_) => {}
+            Name::Hashed(_) => {}
+        }
+    }
+}
+
+impl Drop for Literal {
+    fn drop(self) {
+        let Literal {
+            name: _,
+            value: _,
+            is_default: _,
+        } = self;
+    }
+}
+
+impl Drop for Flag {
+    fn drop(self) {
+        let Flag {
+            name: _,
+            position: _,
+        } = self;
+    }
+}
+
+impl Drop for EnumType {
+    fn drop(self) {
+        let EnumType {
+            name: _,
+            ext: _,
+            bits: _,
+            literals: _,
+        } = self;
+    }
+}
+
+impl Drop for MaskType {
+    fn drop(self) {
+        let MaskType {
+            name: _,
+            bits: _,
+            flags: _,
+        } = self;
+    }
+}
+
+impl Drop for Base {
+    fn drop(self) {
+        let Base {
+            name: _,
+            nested: _,
+            hashed_ids: _,
+            count: _,
+        } = self;
+    }
+}
+
+impl Drop for XType {
+    #[cycle(dropping_types)]
+    fn drop(self) {
+        match self {
+            XType::Prim(_) => {}
+            XType::Str(_) => {}
+            XType::Enum(_) => {}
+            XType::Mask(_) => {}
+            XType::Seq(_) => {}
+            XType::Array(_) => {}
+            XType::Map(_) => {}
+            XType::Struct(_) => {}
+            XType::Union(_) => {}
+            XType::Alias(_) => {}
+        }
+    }
+}
+
+impl Drop for SeqType {
+    #[cycle(dropping_types)]
+    fn drop(self) {
+        let SeqType { bound: _, elem: _ } = self;
+    }
+}
+
+impl Drop for ArrayType {
+    #[cycle(dropping_types)]
+    fn drop(self) {
+        let ArrayType { dims: _, elem: _ } = self;
+    }
+}
+
+impl Drop for MapType {
+    #[cycle(dropping_types)]
+    fn drop(self) {
+        let MapType {
+            bound: _,
+            key: _,
+            value: _,
+        } = self;
+    }
+}
+
+impl Drop for StructType {
+    #[cycle(dropping_types)]
+    fn drop(self) {
+        let StructType {
+            name: _,
+            ext: _,
+            nested: _,
+            hashed_ids: _,
+            bases: _,
+            members: _,
+        } = self;
+    }
+}
+
+impl Drop for Case {
+    #[cycle(dropping_types)]
+    fn drop(self) {
+        let Case {
+            id: _,
+            name: _,
+            ty: _,
+            tc: _,
+            labels: _,
+            is_default: _,
+        } = self;
+    }
+}
+
+impl Drop for UnionType {
+    #[cycle(dropping_types)]
+    fn drop(self) {
+        let UnionType {
+            name: _,
+            ext: _,
+            nested: _,
+            hashed_ids: _,
+            disc: _,
+            disc_key: _,
+            cases: _,
+        } = self;
+    }
+}
+
+impl Drop for AliasType {
+    #[cycle(dropping_types)]
+    fn drop(self) {
+        let AliasType { name: _, ty: _ } = self;
+    }
 }

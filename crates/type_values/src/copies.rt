@@ -78,7 +78,8 @@ pub fn copy_flags(alloc: Global, flags: &[Flag]) -> Result<Row<Flag>, OutOfMemor
     Ok(copy)
 }
 
-pub(crate) fn copy_bases(alloc: Global, bases: &[Base]) -> Result<Row<Base>, OutOfMemory>
+/// A copy of the bases of a structure.
+pub fn copy_bases(alloc: Global, bases: &[Base]) -> Result<Row<Base>, OutOfMemory>
     ensures { IfOk result (λ copy. copy ≡ bases.now) }
 {
     let mut copy = Row::new(alloc);
@@ -120,8 +121,9 @@ fn copy_member(alloc: Global, member: &Member) -> Result<Member, OutOfMemory>
     })
 }
 
+/// A copy of the members of a structure.
 #[cycle(copy_type)]
-pub(crate) fn copy_members(alloc: Global, members: &[Member]) -> Result<Row<Member>, OutOfMemory>
+pub fn copy_members(alloc: Global, members: &[Member]) -> Result<Row<Member>, OutOfMemory>
     ensures { IfOk result (λ copy. members_tree copy ≡ members_tree members.now) }
 {
     let mut copy = Row::new(alloc);

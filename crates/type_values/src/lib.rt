@@ -14,7 +14,8 @@ mod value_copies;
 
 pub use bases::base_of;
 pub use copies::{
-    copy_flags, copy_literals, copy_name, copy_optional_text, copy_plain, copy_text, copy_type,
+    copy_bases, copy_flags, copy_literals, copy_members, copy_name, copy_optional_text, copy_plain,
+    copy_text, copy_type,
 };
 pub use defaults::default_value;
 pub use keys::repeats;

@@ -47,7 +47,6 @@ use xt_shapes::{Order, Rep};
 use xt_wire::cursor::DecodeFault;
 
 /// A reader's type, which is assignable from a writer's, and the representation of the writer's samples.
-#[derive(Drop)]
 pub struct Reader {
     pub(crate) rep: Rep,
     pub(crate) ty: XType,
@@ -57,6 +56,19 @@ pub struct Reader {
     ghost valid: { IsValid ty },
     ghost guided: { IsPrepared (tree ty) prepared } by { Prim.hlevel (props, guide_prop) },
     ghost settled: { has_floats ≡ kinds.has_floats (tree ty) },
+}
+
+// By hand, so that it is proved here once, and not in each crate that lets one go.
+impl Drop for Reader {
+    fn drop(self) {
+        let Reader {
+            rep: _,
+            ty: _,
+            prepared: _,
+            may_be_taped: _,
+            has_floats: _,
+        } = self;
+    }
 }
 
 pub(crate) fn malformed(alloc: Global, at: u64, why: Why) -> Result<Answer, OutOfMemory>

@@ -8,10 +8,19 @@ use type_object::Pool;
 use xt_lists::Row;
 
 /// The types that the records of a bundle declare, with their identifiers, and the pool of their objects.
-#[derive(Drop)]
 pub struct Types {
     pub(crate) declared: Row<Declared>,
     pub(crate) pool: Pool,
     ghost good: { AllGood declared } by { AllGood-prop declared },
     ghost back: { AllComeBack pool (map declared_view declared) } by { AllComeBack-prop pool (map declared_view declared) },
+}
+
+// By hand, so that it is proved here once, and not in each crate that lets one go.
+impl Drop for Types {
+    fn drop(self) {
+        let Types {
+            declared: _,
+            pool: _,
+        } = self;
+    }
 }

@@ -10,7 +10,6 @@ use xt_lists::{Row, Text, Word};
 
 /// The words, the input and the net of a run, and what is wanted of it, also where something goes wrong. Where it is told how many octets
 /// the source gives or the sink takes in a call, it is run so alone.
-#[derive(Drop)]
 pub struct Case {
     pub name: String,
     pub words: Row<Word>,
@@ -20,6 +19,22 @@ pub struct Case {
     pub sink: Option<usize>,
     pub outcome: Outcome,
     pub faulty: Row<FaultyRuns>,
+}
+
+// By hand, so that it is one step wherever one is let go.
+impl Drop for Case {
+    fn drop(self) {
+        let Case {
+            name: _,
+            words: _,
+            input: _,
+            net: _,
+            source: _,
+            sink: _,
+            outcome: _,
+            faulty: _,
+        } = self;
+    }
 }
 
 /// The parts of a case. What stands before its first line is a part too.

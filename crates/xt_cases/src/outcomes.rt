@@ -13,13 +13,25 @@ const MOST_BEFORE: usize = 60;
 
 /// How a run ends: its output and its exit status, and where it is told, what the client's link took, and what each link of a door took,
 /// door by door. A client connects once at most, whatever comes.
-#[derive(Drop)]
 pub struct Outcome {
     pub output: Text,
     pub sent: Option<Text>,
     pub held: Row<Text>,
     pub connections: u64,
     pub status: u8,
+}
+
+// By hand, so that it is one step wherever one is let go.
+impl Drop for Outcome {
+    fn drop(self) {
+        let Outcome {
+            output: _,
+            sent: _,
+            held: _,
+            connections: _,
+            status: _,
+        } = self;
+    }
 }
 
 /// What was wanted and what came, in print.

@@ -5,7 +5,7 @@ use thiserror::Error;
 use xt_lists::OutOfMemory;
 
 /// What ends the program before the last case.
-#[derive(Debug, Drop, Error)]
+#[derive(Debug, Error)]
 pub enum Trouble {
     /// The line is none of a case, or may not stand where it stands.
     #[error("no line of a case, or out of its place: {0}")]
@@ -18,6 +18,18 @@ pub enum Trouble {
     Io(io::ErrorKind),
     #[error("out of memory")]
     OutOfMemory,
+}
+
+// By hand, so that it is one step wherever one is let go.
+impl Drop for Trouble {
+    fn drop(self) {
+        match self {
+            Trouble::Line(_) => {}
+            Trouble::Unfinished(_) => {}
+            Trouble::Io(_) => {}
+            Trouble::OutOfMemory => {}
+        }
+    }
 }
 
 impl From<OutOfMemory> for Trouble {

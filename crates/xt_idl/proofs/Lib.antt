@@ -1,4 +1,5 @@
 mod NamedAt
+mod InheritedParts
 mod Measuring
 mod Lightened
 mod Numbering

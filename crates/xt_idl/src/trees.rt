@@ -15,7 +15,9 @@ use crate::standing::{
 use idl_types::{Declaration, Definition, StructDefinition, UnionDefinition, Used, boxed};
 use std::alloc::Global;
 use type_trees::{AliasType, Base, EnumType, MaskType, Member, Named, StructType, XType};
-use type_values::{copy_flags, copy_literals, copy_optional_text, copy_text, copy_type};
+use type_values::{
+    copy_bases, copy_flags, copy_literals, copy_members, copy_optional_text, copy_text, copy_type,
+};
 use xt_lists::{OutOfMemory, Row, Text};
 use xt_shapes::Prim;
 
@@ -100,36 +102,29 @@ fn count_of(members: &[Member]) -> u32
     members.len().min(4_294_967_295) as u32
 }
 
-#[tactic(auto, using(type_trees::proofs::Views::tree_rules, idl_definitions::proofs::MakeSteps::listed_back))]
-fn of_structure(structure: StructType) -> Result<Inherited, OutOfMemory>
-    ensures bases { IfOk result (λ h. h.bases ≡ bases_on (struct_tree structure)) }
-    ensures members { IfOk result (λ h. map member_tree h.members ≡ members_on (struct_tree structure)) }
+#[tactic(auto, using(type_trees::proofs::Views::tree_rules, crate::proofs::InheritedParts::copied_back))]
+fn of_structure(alloc: Global, structure: &StructType) -> Result<Inherited, OutOfMemory>
+    ensures bases { IfOk result (λ h. h.bases ≡ bases_on (struct_tree structure.now)) }
+    ensures members { IfOk result (λ h. map member_tree h.members ≡ members_on (struct_tree structure.now)) }
 {
-    let StructType {
-        name,
-        ext: _,
-        nested,
-        hashed_ids,
-        mut bases,
-        members,
-    } = structure;
-    let count = count_of(members.as_slice());
+    let mut bases = copy_bases(alloc, structure.bases.as_slice())?;
     bases.push(Base {
-        name,
-        nested,
-        hashed_ids,
-        count,
+        name: copy_optional_text(alloc, &structure.name)?,
+        nested: structure.nested,
+        hashed_ids: structure.hashed_ids,
+        count: count_of(structure.members.as_slice()),
     })?;
+    let members = copy_members(alloc, structure.members.as_slice())?;
     Ok(Inherited { bases, members })
 }
 
 #[tactic(auto, using(type_trees::proofs::Views::tree_rules))]
-fn of_type(alloc: Global, ty: XType) -> Result<Inherited, OutOfMemory>
-    ensures bases { IfOk result (λ h. h.bases ≡ bases_on (tree ty)) }
-    ensures members { IfOk result (λ h. map member_tree h.members ≡ members_on (tree ty)) }
+fn of_type(alloc: Global, ty: &XType) -> Result<Inherited, OutOfMemory>
+    ensures bases { IfOk result (λ h. h.bases ≡ bases_on (tree ty.now)) }
+    ensures members { IfOk result (λ h. map member_tree h.members ≡ members_on (tree ty.now)) }
 {
     match ty {
-        XType::Struct(kind) => of_structure(Box::into_inner(kind)),
+        XType::Struct(kind) => of_structure(alloc, kind),
         XType::Prim(_)
         | XType::Str(_)
         | XType::Enum(_)
@@ -142,13 +137,24 @@ fn of_type(alloc: Global, ty: XType) -> Result<Inherited, OutOfMemory>
     }
 }
 
-fn of_base(alloc: Global, copies: &Copies, base: Option<usize>) -> Result<Inherited, OutOfMemory>
-    ensures bases { IfOk result (λ h. h.bases ≡ bases_before (declared copies.now.types.now) base) }
-    ensures members { IfOk result (λ h. map member_tree h.members ≡ members_before (declared copies.now.types.now) base) }
+#[tactic(auto, using(crate::proofs::NamedAt::at_none, crate::proofs::NamedAt::at_some))]
+fn of_declared(alloc: Global, types: &[Named], at: usize) -> Result<Inherited, OutOfMemory>
+    ensures bases { IfOk result (λ h. h.bases ≡ bases_on (tree_at (declared types.now) at)) }
+    ensures members { IfOk result (λ h. map member_tree h.members ≡ members_on (tree_at (declared types.now) at)) }
+{
+    match named_at(types, at) {
+        Some(named) => of_type(alloc, &named.ty),
+        None => Ok(nothing_inherited(alloc)),
+    }
+}
+
+fn of_base(alloc: Global, types: &[Named], base: Option<usize>) -> Result<Inherited, OutOfMemory>
+    ensures bases { IfOk result (λ h. h.bases ≡ bases_before (declared types.now) base) }
+    ensures members { IfOk result (λ h. map member_tree h.members ≡ members_before (declared types.now) base) }
 {
     match base {
+        Some(at) => of_declared(alloc, types, at),
         None => Ok(nothing_inherited(alloc)),
-        Some(at) => of_type(alloc, copies.at(alloc, at)?),
     }
 }
 
@@ -161,7 +167,7 @@ fn structure(
 ) -> Result<XType, OutOfMemory>
     ensures { IfOk result (λ t. tree t ≡ defined (declared copies.now.types.now) name.now (Definition.Struct kind.now)) }
 {
-    let Inherited { bases, mut members } = of_base(alloc, copies, kind.base)?;
+    let Inherited { bases, mut members } = of_base(alloc, copies.types, kind.base)?;
     append_members(alloc, copies, kind.members.as_slice(), &mut members)?;
     let name = copy_text(alloc, name)?;
     let structure = structure_of(name, kind, bases, members);

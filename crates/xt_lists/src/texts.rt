@@ -6,9 +6,16 @@ use std::hash::{Hash, Hasher};
 use std::marker::Model;
 
 /// A list of octets.
-#[derive(Debug, Drop)]
+#[derive(Debug)]
 pub struct Text {
     octets: Vec<u8>,
+}
+
+// By hand, so that it is proved here once, and not in each crate that lets one go.
+impl Drop for Text {
+    fn drop(self) {
+        let Text { octets: _ } = self;
+    }
 }
 
 /// A word of a command line or of a text.

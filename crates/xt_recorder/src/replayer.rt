@@ -19,7 +19,6 @@ pub(crate) struct Stream {
 
 /// A reader's type, with an identifier that the objects resolve to it where one is known, the objects so far, and the stream, once there was one. What was found of the last stream's type is kept, so that many
 /// streams of a type cost one verdict; it is forgotten where an object comes that was not there.
-#[derive(Drop)]
 pub struct Replayer {
     pub(crate) reader: XType,
     pub(crate) id: Option<HashId>,
@@ -29,4 +28,17 @@ pub struct Replayer {
     ghost valid: { IsValid reader },
     ghost known: { ForSome id (λ id. IsJudgedAs (tree reader) (resolved pool id)) },
     ghost so: { ForSome last (λ found. IsSo (tree reader) pool found) },
+}
+
+// By hand, so that it is proved here once, and not in each crate that lets one go.
+impl Drop for Replayer {
+    fn drop(self) {
+        let Replayer {
+            reader: _,
+            id: _,
+            pool: _,
+            stream: _,
+            last: _,
+        } = self;
+    }
 }

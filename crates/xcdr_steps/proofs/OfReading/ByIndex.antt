@@ -1,7 +1,6 @@
 -- Members by their index.
-use Rattle.std.proofs.Common.{◌≡◌, refl, sym, ap, ◌∙◌, ℕ, zero, suc, ◌+◌, ◌<◌, ◌≤◌, ◌≢◌, Bool, true, false, not, ◌||◌, ◌==◌, List, [], ◌∷◌, length, drop, get_or, drop_of_length-le, Option, Some, None, arith, eq-eqb, inl, inr}
-use Rattle.std.specs.Option.{option_map}
-use Rattle.std.proofs.lemmas.Bool.{cases_Bool, eqb-true, ne_eqb, and_parts}
+use Rattle.std.proofs.Common.{◌≡◌, refl, sym, ap, ◌∙◌, ℕ, zero, suc, ◌+◌, ◌<◌, ◌≤◌, Bool, true, false, not, ◌||◌, ◌==◌, List, [], ◌∷◌, length, drop, get_or, drop_of_length-le, Some, arith, eq-eqb, inl, inr}
+use Rattle.std.proofs.lemmas.Bool.{cases_Bool, eqb-true, and_parts}
 use Rattle.std.proofs.lemmas.List.{at_drop_more}
 use Rattle.xt_shapes.specs.Select.{has_member}
 use Rattle.xt_shapes.specs.Shape.{no_members, member}
@@ -9,7 +8,7 @@ use Rattle.type_trees.specs.declared.types.Member as declared
 use Rattle.type_trees.specs.Bridge.{type_shape, members_shape, member_head}
 use Rattle.type_trees.proofs.Views.{member_tree_is}
 use Rattle.xcdr_model.specs.Premises.{distinct_members}
-use Rattle.try_construct.proofs.CasesByIndex.{shifted, shifted_one, shifted_none}
+use Rattle.try_construct.proofs.CasesByIndex.{shifted_none}
 use Rattle.xcdr_steps.specs.reading.Indices.{index_of}
 
 pub next_shape : (ms : List declared.Member) (i : ℕ) (d : declared.Member) → i < length ms → members_shape (drop i ms) ≡ member (member_head (get_or ms i d)) (type_shape (get_or ms i d).ty) (members_shape (drop (i + 1) ms))
@@ -17,15 +16,6 @@ next_shape ms i d within = at_drop_more (λ xs. members_shape xs) ms i d within 
 
 pub none_left : (ms : List declared.Member) (i : ℕ) → length ms ≤ i → members_shape (drop i ms) ≡ no_members
 none_left ms i le = ap (λ (xs : List declared.Member). members_shape xs) (drop_of_length-le ms le)
-
-pub here : (ms : List declared.Member) (i id : ℕ) (d : declared.Member) → i < length ms → (get_or ms i d).id ≡ id → shifted i (index_of (members_shape (drop i ms)) id) ≡ Some i
-here ms i id d within is = rw (next_shape ms i d within, eq-eqb _ _ is) (ap (λ (k : ℕ). Some k) (omega arith))
-
-pub further : (ms : List declared.Member) (i id : ℕ) (d : declared.Member) → i < length ms → (get_or ms i d).id ≢ id → shifted i (index_of (members_shape (drop i ms)) id) ≡ shifted (i + 1) (index_of (members_shape (drop (i + 1) ms)) id)
-further ms i id d within other = rw (next_shape ms i d within, ne_eqb _ _ other) (shifted_one i (index_of (members_shape (drop (i + 1) ms)) id))
-
-pub nowhere : (ms : List declared.Member) (i id : ℕ) → length ms ≤ i → shifted i (index_of (members_shape (drop i ms)) id) ≡ None
-nowhere ms i id le = rw (none_left ms i le) refl
 
 not_true : (b : Bool) → not b ≡ true → b ≡ false
 not_true true e = absurd cc

@@ -47,9 +47,9 @@ returns-in-Ok-clause-octets g c =
     let text = c.in_ok-octets.octets in
     let n = c.length_of-length.result in
     let full : length text ≡ n = search rules in
-    let read = ap (λ (t : List ℕ). filled n (payload t) []) (sym c.octets-2.ensures) ∙ ap (λ f. filled n f []) c.in-Ok.ensures.read in
+    let read = ap (λ (t : List ℕ). filled n (payload t) []) (sym c.octets.ensures) ∙ ap (λ f. filled n f []) c.in-Ok.ensures.read in
     let front = front-filled c.fill.new.into text n room c.length_of-length.ensures.number c.if-length-eq0.false (search rules) full ∙ read in
-    let payload : text ≡ payload_of c.in-Ok.message = sym c.octets-2.ensures ∙ c.in-Ok.ensures.spelled in
+    let payload : text ≡ payload_of c.in-Ok.message = sym c.octets.ensures ∙ c.in-Ok.ensures.spelled in
     (c.fill.new.into ++ text, took-more _ _ _ _ _ _ _ _ head c.in_ok-octets.ensures.octets, (front, frame_spelling c.fill.new.into text _ n c.length_of-length.ensures.size full payload))
 
 pub returns-in-Err-BadField-clause-octets : goal.returns-in-Err-BadField-clause-octets
@@ -60,8 +60,8 @@ returns-in-Err-BadField-clause-octets g c =
     let text = c.in_ok-octets.octets in
     let n = c.length_of-length.result in
     let full : length text ≡ n = search rules in
-    let stopped : payload c.octets-2.result.now ≡ bad c.in-Err-BadField.left = rw c.in-Err-BadField.field-0-is at c.in-Err-BadField.ensures.read in
-    let read = ap (λ (t : List ℕ). filled n (payload t) []) (sym c.octets-2.ensures) ∙ ap (λ f. filled n f []) stopped in
+    let stopped : payload c.octets.result.now ≡ bad c.in-Err-BadField.left = rw c.in-Err-BadField.field-0-is at c.in-Err-BadField.ensures.read in
+    let read = ap (λ (t : List ℕ). filled n (payload t) []) (sym c.octets.ensures) ∙ ap (λ f. filled n f []) stopped in
     let at : n - c.in-Err-BadField.left ≡ c.saturating_sub.result = search rules in
     (c.fill.new.into ++ text, took-more _ _ _ _ _ _ _ _ head c.in_ok-octets.ensures.octets, (front-filled c.fill.new.into text n room c.length_of-length.ensures.number c.if-length-eq0.false (search rules) full ∙ read ∙ ap (λ k. broken (BadMessage k)) at, ends-filled c.fill.new.into text n room c.length_of-length.ensures.number full))
 
