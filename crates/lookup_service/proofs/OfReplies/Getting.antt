@@ -1,6 +1,6 @@
 -- The objects of a reply to getTypes, one identifier after another.
-use Rattle.std.proofs.Common.{◌≡◌, ◌≢◌, ℕ, ◌+◌, ◌-◌, ◌≤◌, ◌<◌, Bool, true, false, cond, List, [], ◌∷◌, ◌++◌, length, Option, inl, inr, refl, sym, ap, subst, ◌∙◌, append_assoc, append-nil, length-append, arith}
-use Rattle.std.specs.Prelude.{None, Some, Ok, nat_lt}
+use Rattle.std.proofs.Common.{◌≡◌, ◌≢◌, ℕ, ◌+◌, ◌-◌, ◌≤◌, ◌<◌, true, false, cond, List, [], ◌∷◌, ◌++◌, length, Option, refl, sym, ap, subst, ◌∙◌, append_assoc, append-nil, length-append, arith}
+use Rattle.std.specs.Prelude.{None, Some, nat_lt}
 use Rattle.type_trees.specs.declared.types.HashId.{HashId}
 use Rattle.object_formats.proofs.OwnKinds.{text_short, text_kind}
 use Rattle.std.proofs.lemmas.Bool.{lt-ltb, le-ltb}
@@ -116,8 +116,8 @@ fits_still objects objects_then room size id octets hash long fits put h =
 pub serves_init : (k : Known) (tried asked : List HashId) (objects : List Fetched) → tried ≡ [] → objects ≡ [] → ServesFrom k tried asked objects 262131 asked
 serves_init k tried asked objects none empty = subst (λ (o : List HashId). ServesFrom k o asked objects 262131 asked) (sym none) (subst (λ (o : List Fetched). ServesFrom k [] asked o 262131 asked) (sym empty) (serves_start k asked))
 
-pub item_put : (objects then : List Fetched) (id : HashId) (text octets : List ℕ) → then ≡ objects ++ one id text ∷ [] → text ≡ octets → then ≡ objects ++ one id octets ∷ []
-item_put objects then id text octets is same = is ∙ ap (λ (o : List ℕ). objects ++ one id o ∷ []) same
+pub item_put : (objects then : List Fetched) (id : HashId) (f : Fetched) → then ≡ objects ++ f ∷ [] → f.id ≡ id → then ≡ objects ++ one id f.octets ∷ []
+item_put objects then id f is same = is ∙ ap (λ (i : HashId). objects ++ one i f.octets ∷ []) same
 
 -- an identifier of an object has an object's kind
 pub named_kind : (name : List ℕ → List ℕ) (id j : HashId) (octets : List ℕ) → IsNamed name (held id octets) → id ≡ j → is_object_kind j.kind ≡ true

@@ -1,6 +1,6 @@
 -- The outcomes of a reply to putTypes, one object after another.
 use Rattle.std.proofs.Math.Seq.{take-suc}
-use Rattle.std.proofs.Common.{◌≡◌, ◌≢◌, ℕ, suc, take, get_or, ◌<◌, ◌≤◌, List, [], ◌∷◌, ◌++◌, length, Option, refl, sym, ap, subst, ◌∙◌, arith}
+use Rattle.std.proofs.Common.{◌≡◌, ◌≢◌, ℕ, suc, take, get_or, ◌<◌, List, [], ◌∷◌, ◌++◌, length, Option, refl, sym, ap, subst, ◌∙◌, arith}
 use Rattle.std.specs.Prelude.{None, Some, Err}
 use Rattle.object_formats.specs.declared.faults.Fault.{Fault}
 use Rattle.object_formats.specs.Tables.{object_of}
@@ -8,7 +8,7 @@ use Rattle.type_object.specs.Pools.{IsObject}
 use Rattle.type_object.specs.Names.{named_by}
 use Rattle.type_registry.specs.Held.{Held}
 use Rattle.type_registry.specs.Found.{Found}
-use Rattle.type_registry.specs.Passed.{PassView, Occupied, known, fulls, Keeps, Grows, IsFull, Learns, LearnsFull}
+use Rattle.type_registry.specs.Passed.{PassView, known, Keeps, Grows, LearnsFull}
 use Rattle.type_registry.specs.Registered.{IsIn}
 use Rattle.type_object.specs.visits.Visits.{Known}
 use Rattle.lookup_service.specs.replies.Replies.{IsOutcome, AreOutcomes}

@@ -1,5 +1,5 @@
 -- Walks through known objects, one visit after another.
-use Rattle.std.proofs.Common.{◌≡◌, ◌≢◌, ℕ, zero, suc, ◌-◌, ◌<◌, length, arith, Bool, true, false, ◌&&◌, cond, not, List, [], ◌∷◌, ◌++◌, Option, inl, inr, ◌⊎◌, refl, sym, ap, subst, ◌∙◌}
+use Rattle.std.proofs.Common.{◌≡◌, ◌≢◌, ℕ, zero, suc, ◌-◌, ◌<◌, length, arith, Bool, true, false, ◌&&◌, cond, not, List, [], ◌∷◌, ◌++◌, Option, inl, inr, refl, sym, ap, subst, ◌∙◌}
 use Rattle.std.specs.Prelude.{None, Some, All}
 use Rattle.std.specs.Option.{is_some}
 use mathlib.Core.Bool.{true≢false}

@@ -1,5 +1,5 @@
 -- Replies to the requests of TypeLookup (DDS-XTypes 1.3, 7.6.3.3). The order, the limits, the pages and the outcomes are this profile's own.
-use Rattle.std.specs.Prelude.{◌≡◌, ◌≢◌, ℕ, zero, suc, ◌+◌, ◌-◌, ◌≤◌, List, [], ◌∷◌, Bool, true, false, cond, not, Option, Some, None, length, map, filter, take, drop, nat_lt, ◌↔◌}
+use Rattle.std.specs.Prelude.{◌≡◌, ◌≢◌, ℕ, ◌+◌, ◌-◌, ◌≤◌, List, [], ◌∷◌, Bool, true, false, cond, not, Option, Some, None, length, map, filter, take, drop, nat_lt, ◌↔◌}
 use Rattle.std.specs.Int.{w32, from_le_bytes, to_le_bytes}
 use Rattle.type_trees.specs.declared.types.HashId.{HashId}
 use Rattle.type_object.specs.Pools.{IsObject}

@@ -1,5 +1,5 @@
 -- What a walk through known objects has learned so far (this profile's own).
-use Rattle.std.specs.Prelude.{◌≡◌, ℕ, suc, List, Bool, true, false, Option, None}
+use Rattle.std.specs.Prelude.{◌≡◌, ℕ, List, true, false, None}
 use Rattle.type_trees.specs.declared.types.HashId.{HashId}
 use Rattle.type_object.specs.References.{is_among}
 use Rattle.type_object.specs.visits.Visits.{Known, is_known, referred, visits}

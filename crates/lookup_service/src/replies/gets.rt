@@ -5,13 +5,13 @@ ghost use Rattle.type_trees.specs.Ids.{id_octets};
 ghost use Rattle.type_lookup.specs.messages.Spelling.{IsKnownId, IsFetched, fetched_octets, all_octets};
 ghost use Rattle.lookup_service.specs.replies.Replies.{served};
 
-use crate::replies::look_up::look_up;
+use crate::replies::look_up::fetched_of;
 use std::alloc::Global;
 use type_lookup::messages::Fetched;
 use type_object::visits::Ids;
 use type_registry::{Naming, Pass, Registry};
 use type_trees::HashId;
-use xt_lists::{OutOfMemory, Row, Text};
+use xt_lists::{OutOfMemory, Row};
 
 /// The octets that the objects of a reply may take: those of the largest payload, without the fields before the objects.
 const MOST_OCTETS: usize = 262_131;
@@ -39,19 +39,15 @@ pub(crate) fn objects<'r, N: Naming>(
             continue;
         }
         tried.add(*id)?;
-        let Some(finding) = look_up(registry, pass, id)? else {
+        let Some(object) = fetched_of(alloc, registry, pass, id)? else {
             continue;
         };
-        let octets = finding.octets();
-        let size = head_size(id) + octets.len();
+        let size = head_size(id) + object.octets.len();
         if room < size {
             return Ok(objects);
         }
         room -= size;
-        objects.push(Fetched {
-            id: *id,
-            octets: Text::from_octets(alloc, octets)?,
-        })?;
+        objects.push(object)?;
     }
     Ok(objects)
 }

@@ -3,7 +3,7 @@ ghost use Rattle.type_registry.specs.Passed.{known, Grows};
 ghost use Rattle.type_object.specs.visits.Visits.{met};
 ghost use Rattle.lookup_service.specs.replies.Walks.{Tells, Leads, Further};
 
-use crate::replies::look_up::{look_up, references_of};
+use crate::replies::look_up::references_from;
 use std::alloc::Global;
 use type_object::visits::{Ids, Todo};
 use type_registry::{Naming, Pass, Registry};
@@ -43,8 +43,7 @@ impl Walk {
                 continue;
             }
             self.tried.add(id)?;
-            if let Some(finding) = look_up(registry, pass, &id)? {
-                let references = references_of(alloc, finding.octets())?;
+            if let Some(references) = references_from(alloc, registry, pass, &id)? {
                 self.todo.put_before(references.as_slice())?;
                 self.seen.push(id)?;
                 return Ok(true);

@@ -1,5 +1,4 @@
-use Rattle.std.proofs.Common.{◌∙◌, sym, ap, arith, rules, drop, not, length, length-append}
-use Rattle.std.proofs.Math.Seq.{drop-length}
+use Rattle.std.proofs.Common.{◌∙◌, sym, ap, arith, drop, not, length, length-append}
 use Rattle.type_trees.specs.declared.types.HashId.{HashId}
 use Rattle.type_object.specs.References.{is_among}
 use Rattle.type_object.proofs.OfVisits.Left.{left_past, left_more, left_full, left_all, next_item, past_end}

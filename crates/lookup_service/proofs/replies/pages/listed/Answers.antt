@@ -1,10 +1,4 @@
-use Rattle.std.proofs.Common.{◌∙◌, ap, sym, subst, take, filter, not, true, ◌≡◌, List}
-use Rattle.std.specs.List.{All}
-use Rattle.type_trees.specs.declared.types.HashId.{HashId}
-use Rattle.type_object.specs.References.{is_among}
 use Rattle.type_registry.specs.Passed.{known}
-use Rattle.type_object.specs.visits.Visits.{is_known}
-use Rattle.lookup_service.specs.replies.Replies.{depends}
 use Rattle.lookup_service.proofs.OfReplies.Listing.{listed_is, listed_known}
 use Rattle.lookup_service.proofs.replies.pages.listed.Goals as goal
 

@@ -1,8 +1,7 @@
-use Rattle.std.proofs.Common.{◌∙◌, ◌++◌, ◌≤◌, sym, ap, subst, arith, rules, List, ℕ, [], length, length-append}
+use Rattle.std.proofs.Common.{◌∙◌, ◌≤◌, sym, ap, subst, arith, ℕ, length, length-append}
 use Rattle.std.specs.List.{All}
 use Rattle.std.proofs.lemmas.List.Elements.{All-push}
-use Rattle.type_registry.specs.Passed.{known}
-use Rattle.lookup_service.proofs.OfReplies.Putting.{grows_then, outcome_before, outcomes_more, outcomes_next}
+use Rattle.lookup_service.proofs.OfReplies.Putting.{grows_then, outcomes_next}
 use Rattle.lookup_service.proofs.replies.puts.outcomes.Goals as goal
 
 pub objects-preserved : goal.objects-preserved

@@ -1,4 +1,4 @@
-use Rattle.std.proofs.Common.{◌∙◌, sym, arith}
+use Rattle.std.proofs.Common.{◌∙◌, arith}
 use Rattle.type_registry.specs.Passed.{known}
 use Rattle.lookup_service.proofs.OfReplies.Putting.{grows_then}
 use Rattle.lookup_service.proofs.OfReplies.Walking.{round_step, last_met, all_met}
